@@ -1,7 +1,7 @@
 -- What comes of an event that is tried where a machine stands.
 use Rattle.laws_runs.proofs.Prelude.{ap, arith, get_or, refl, slice_get-get_or, subst, sym, ◌∙◌, Bool, List, None, Option, Some, [], false, length, slice_get, suc, true, ℕ, ◌+◌, ◌++◌, ◌<◌, ◌∷◌, ◌≡◌, ◌≤◌, run, reply_to, Set, World, Event, Reply}
 use Rattle.hunt_exact.specs.Amiss.{amiss_at}
-use Rattle.hunt_exact.specs.Searched.{Came, Followed, GoesTo, HasCome, HasExpanded, HasFollowed, HasFollowedEach, IsAt, IsFollowing, IsFound, IsKept, is_new, was_met, IsKeptFrom, IsMet, IsSearched, IsThere, Leads, LeadsThere}
+use Rattle.hunt_exact.specs.Searched.{Came, Followed, GoesTo, HasCome, HasExpanded, HasFollowed, HasFollowedEach, IsAt, IsCounted, IsFollowing, IsFound, IsKept, is_new, was_met, IsKeptFrom, IsMet, IsSearched, IsThere, Leads, LeadsThere}
 use Rattle.hunt_exact.specs.Within.{IsAllowed, Scope, is_open, run_of, world_of}
 use Rattle.hunt_exact.proofs.Following.{followed_on, front_on, passed_over}
 use Rattle.hunt_exact.specs.declared.visiting.Outcome.{Outcome}
@@ -183,11 +183,13 @@ module _ (scope : Scope) (path : List Event) (e : Event) (m k : Machine)
 
 -- before the first event is followed, and behind the last one
 pub following_begun : (scope : Scope) (paths : List (List Event)) (front : ℕ) (path : List Event)
-    → IsSearched scope paths front → slice_get paths front ≡ Some path
+    → IsCounted scope paths front → slice_get paths front ≡ Some path
     → IsFollowing scope paths front path 0
-following_begun scope paths front path searched at =
+following_begun scope paths front path counted at =
     record {
-      searched = searched;
+      searched = counted.searched;
+      few = omega (arith, counted.few);
+      most = omega arith;
       at = at;
       followed = λ i e less kept allowed. absurd (omega (arith, less));
     }
@@ -212,9 +214,9 @@ pub expanded : (scope : Scope) (path : List Event) (m : Machine)
     (paths later : List (List Event)) (found : Option Event) → m.set ≡ scope.set
     → ShowsWhole m scope.threads path → HasFollowedEach scope path m paths later found
     → HasExpanded scope path paths later found
-expanded scope path m paths later found set shows each front searched at =
-    each front (following_begun scope paths front path searched at)
-    (at_path scope path m set shows (searched.on front path at))
+expanded scope path m paths later found set shows each front counted at =
+    each front (following_begun scope paths front path counted at)
+    (at_path scope path m set shows (counted.searched.on front path at))
 
 -- in the words of the code
 pub came_back : (m k : Machine) (e : Event) (reply : Reply) (halted amiss idle : Bool)
@@ -346,7 +348,7 @@ module _ (scope : Scope) (path : List Event) (moves : List Event) (is : moves �
 
   pub searched_next : (paths : List (List Event)) (front : ℕ)
       → IsFollowing scope paths front path i → length moves ≤ i
-      → IsSearched scope paths (suc front)
+      → IsCounted scope paths (suc front)
   searched_next paths front following all =
       front_on scope paths front path i following
       (subst (λ (es : List Event). length es ≤ i) is all)

@@ -1,8 +1,10 @@
 -- Nothing is amiss in a world behind a reply.
-use Rattle.laws_runs.proofs.Prelude.{ap, refl, subst, sym, ◌∙◌, Bool, List, None, Option, Some, [], false, is_some, length, not, true, ℕ, ◌≡◌, Set, World, Reply}
+use Rattle.laws_runs.proofs.Prelude.{ap, refl, subst, sym, ◌∙◌, Bool, List, None, Option, Some, [], false, is_some, length, not, true, ℕ, ◌∷◌, ◌≡◌, Set, World, Reply}
 use Rattle.tell_audit.specs.declared.amiss.Amiss.{Amiss}
+use Rattle.tell_audit.specs.declared.amiss.Amiss.TheVariants.{Disagrees}
 use Rattle.tell_audit.specs.Ends.{first_of, or_amiss, stops_with}
-use Rattle.hunt_exact.specs.Amiss.{amiss_at}
+use Rattle.hunt_exact.specs.Amiss.{amiss_at, is_sought}
+use Rattle.model.specs.Trace.{Serving}
 use Rattle.tell_audit.specs.declared.left.LeftLock.{LeftLock}
 use Rattle.tell_audit.specs.Findings.{ringed_threads}
 use Rattle.tell_audit.specs.Left.{left_locks}
@@ -34,3 +36,17 @@ none_amiss set w reply stop fine lost left ringed tells goes losts lefts rings n
     ap (λ (o : Option Amiss). or_amiss o (first_of (lost_packets w)
     (left_locks w (length set.devices)) (ringed_threads set w) [])) on
     ∙ all
+
+-- what an audit finds amiss, and is sought, is found without the uses of stack locations
+pub sought_found : (stop : Option Amiss) (lost : List ℕ) (left : List LeftLock) (ringed : List ℕ)
+    (uses : List Serving) (amiss : Amiss)
+    → or_amiss stop (first_of lost left ringed uses) ≡ Some amiss → is_sought amiss ≡ true
+    → or_amiss stop (first_of lost left ringed []) ≡ Some amiss
+sought_found (Some stop) lost left ringed uses amiss is sought = is
+sought_found None (n ∷ lost) left ringed uses amiss is sought = is
+sought_found None [] (lock ∷ left) ringed uses amiss is sought = is
+sought_found None [] [] (t ∷ ringed) uses amiss is sought = is
+sought_found None [] [] [] [] amiss is sought = is
+sought_found None [] [] [] (u ∷ uses) amiss is sought =
+    let one : Disagrees u ≡ amiss = cc in
+    let no : false ≡ true = ap is_sought one ∙ sought in cc

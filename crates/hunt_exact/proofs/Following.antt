@@ -1,7 +1,7 @@
 -- A search goes on: what it keeps stays what it is.
-use Rattle.laws_runs.proofs.Prelude.{ap, arith, cases_lt, inl, inr, length-append, refl, subst, sym, zero, ◌∙◌, List, Option, Some, [], false, length, slice_get, slice_get_within, suc, ℕ, ◌++◌, ◌+◌, ◌<◌, ◌∷◌, ◌≡◌, ◌≤◌, ◌⊎◌, World, Event}
+use Rattle.laws_runs.proofs.Prelude.{ap, arith, cases_lt, inl, inr, length-append, refl, subst, sym, zero, ◌∙◌, List, Option, Some, [], false, length, slice_get, slice_get_within, suc, ℕ, ◌*◌, ◌++◌, ◌+◌, ◌<◌, ◌∷◌, ◌≡◌, ◌≤◌, ◌⊎◌, World, Event}
 use Rattle.laws_runs.proofs.Lists.{get_at_length}
-use Rattle.hunt_exact.specs.Searched.{GoesTo, IsFollowed, IsFollowing, IsKept, is_new, was_met, IsMet, IsSearched, Leads}
+use Rattle.hunt_exact.specs.Searched.{IsGrown, GoesTo, IsCounted, IsFollowed, IsFollowing, IsKept, is_new, was_met, IsMet, IsSearched, Leads}
 use Rattle.hunt_exact.specs.Within.{AreWithin, IsAllowed, Scope, run_of, world_of}
 
 -- what stands in a list stands there when more is put at its end, and what stands there then
@@ -26,7 +26,7 @@ get_either (z ∷ xs) y x (suc k) h =
 pub one_of_two : {A : Type 0} (o : Option A) (x y : A) → o ≡ Some x → o ≡ Some y → x ≡ y
 one_of_two o x y h g = cc
 
-no_events : (before : List Event) (e : Event) (after : List Event) → [] ≡ before ++ e ∷ after → ⊥
+pub no_events : (before : List Event) (e : Event) (after : List Event) → [] ≡ before ++ e ∷ after → ⊥
 no_events [] e after is = cc
 no_events (b ∷ before) e after is = cc
 
@@ -34,10 +34,13 @@ only : (k : ℕ) (path : List Event) → slice_get ([] ∷ []) k ≡ Some path �
 only zero path kept = cc
 only (suc k) path kept = cc
 
+none_behind : (k : ℕ) (path : List Event) → slice_get ([] ∷ []) k ≡ Some path → k ≡ 0
+none_behind zero path kept = refl
+none_behind (suc k) path kept = cc
+
 -- before the first event was followed
-pub searched_begun : (scope : Scope) → (run_of scope []).stopped ≡ false
-    → IsSearched scope ([] ∷ []) 0
-searched_begun scope on =
+begun : (scope : Scope) → (run_of scope []).stopped ≡ false → IsSearched scope ([] ∷ []) 0
+begun scope on =
     record {
       first = refl;
       on = λ k path kept.
@@ -49,8 +52,14 @@ searched_begun scope on =
       near = λ k l path other le kept also.
           subst (λ (p : List Event). length p ≤ suc (length path)) (sym (only l other also))
           (omega arith);
+      grown = λ k path less kept.
+          let none : k ≡ 0 = none_behind k path kept in absurd (omega (arith, less, none));
       followed = λ k path e less kept allowed. absurd (omega (arith, less));
     }
+
+pub searched_begun : (scope : Scope) → (run_of scope []).stopped ≡ false
+    → IsCounted scope ([] ∷ []) 0
+searched_begun scope on = record { searched = begun scope on; few = omega arith }
 
 -- an event more at the end of some: it is the last one, or stands among the others
 ends_or_among : (path before after : List Event) (e f : Event)
@@ -80,10 +89,9 @@ within_more scope path e within allowed before f after is =
       | inr among ↦ within before f among.0 among.1
     ]
 
-long_by_one : (events : List Event) (e : Event)
-    → length (events ++ e ∷ []) ≡ suc (length events)
-long_by_one events e =
-    let long : length (events ++ e ∷ []) ≡ length events + 1 = length-append events (e ∷ []) in
+long_by_one : {A : Type 0} (xs : List A) (x : A) → length (xs ++ x ∷ []) ≡ suc (length xs)
+long_by_one xs x =
+    let long : length (xs ++ x ∷ []) ≡ length xs + 1 = length-append xs (x ∷ []) in
     omega (arith, long)
 
 -- what was met is met when another run is kept too
@@ -131,12 +139,17 @@ upto_more scope paths path tried e at here before i f less there allowed =
 module _ (scope : Scope) (paths : List (List Event)) (front : ℕ) (path : List Event) (tried : ℕ)
     (following : IsFollowing scope paths front path tried) (e : Event)
     (there : slice_get scope.moves tried ≡ Some e) where
+  below : tried < length scope.moves
+  below = slice_get_within scope.moves tried e there
+
   -- an event that isn't allowed is passed over
   pub passed_over : (IsAllowed scope (world_of scope path) e → ⊥)
       → IsFollowing scope paths front path (suc tried)
   passed_over free =
       record {
         searched = following.searched;
+        few = omega (arith, following.few);
+        most = omega (arith, below);
         at = following.at;
         followed = upto_more scope paths path tried e there (λ allowed. absurd (free allowed))
             following.followed;
@@ -211,6 +224,30 @@ module _ (scope : Scope) (paths : List (List Event)) (front : ℕ) (path : List 
               omega (arith, one, long)
         ]
 
+    new_grown : (k : ℕ) (p : List Event) → 0 < k → slice_get (paths ++ q ∷ []) k ≡ Some p
+        → IsGrown scope (paths ++ q ∷ []) k p
+    new_grown k p more kept =
+        elim (get_either paths q p k kept) [
+          | inl old ↦
+              let on : IsGrown scope paths k p = following.searched.grown k p more old in
+              record {
+                number = on.number;
+                before = on.before;
+                kept = get_more paths q on.before on.number on.kept;
+                longer = on.longer;
+                few = on.few;
+              }
+          | inr last ↦
+              let is : length p ≡ length q = ap (λ (x : List Event). length x) last.1 in
+              record {
+                number = front;
+                before = path;
+                kept = get_more paths q path front following.at;
+                longer = is ∙ long_by_one path e;
+                few = omega (arith, last.0, following.few, below);
+              }
+        ]
+
     new_searched : IsSearched scope (paths ++ q ∷ []) front
     new_searched =
         record {
@@ -235,6 +272,7 @@ module _ (scope : Scope) (paths : List (List Event)) (front : ℕ) (path : List 
               let low : length path ≤ length p = at_least k p le kept in
               let high : length other ≤ suc (length path) = at_most l other also in
               omega (arith, low, high);
+          grown = new_grown;
           followed = λ k p f less kept may.
               elim (get_either paths q p k kept) [
                 | inl old ↦
@@ -250,6 +288,8 @@ module _ (scope : Scope) (paths : List (List Event)) (front : ℕ) (path : List 
     followed_on later (was_met ps met) =
         record {
           searched = following.searched;
+          few = omega (arith, following.few);
+          most = omega (arith, below);
           at = following.at;
           followed = upto_more scope paths path tried e there
               (λ may. record { world = w; goes = goes; met = met }) following.followed;
@@ -257,6 +297,10 @@ module _ (scope : Scope) (paths : List (List Event)) (front : ℕ) (path : List 
     followed_on later (is_new ps) =
         record {
           searched = new_searched;
+          few =
+              let long : length (paths ++ q ∷ []) ≡ suc (length paths) = long_by_one paths q in
+              omega (arith, long, following.few);
+          most = omega (arith, below);
           at = get_more paths q path front following.at;
           followed = upto_more scope (paths ++ q ∷ []) path tried e there
               (λ may. record { world = w; goes = goes; met = here_met })
@@ -265,10 +309,10 @@ module _ (scope : Scope) (paths : List (List Event)) (front : ℕ) (path : List 
         }
 
 -- where all events of the list were followed, the front goes on
-pub front_on : (scope : Scope) (paths : List (List Event)) (front : ℕ) (path : List Event)
+front_searched : (scope : Scope) (paths : List (List Event)) (front : ℕ) (path : List Event)
     (tried : ℕ) → IsFollowing scope paths front path tried → length scope.moves ≤ tried
     → IsSearched scope paths (suc front)
-front_on scope paths front path tried following all =
+front_searched scope paths front path tried following all =
     record {
       first = following.searched.first;
       on = following.searched.on;
@@ -276,6 +320,7 @@ front_on scope paths front path tried following all =
       sorted = following.searched.sorted;
       near = λ k l p other le kept also.
           following.searched.near k l p other (omega (arith, le)) kept also;
+      grown = following.searched.grown;
       followed = λ k p e less kept allowed.
           elim (cases_lt k front) [
             | inl before ↦ following.searched.followed k p e before kept allowed
@@ -293,4 +338,13 @@ front_on scope paths front path tried following all =
                 subst (λ (x : List Event). IsFollowed scope paths x e) one
                 (following.followed may.tried.0 e (omega (arith, inside, all)) may.tried.1 may)
           ];
+    }
+
+pub front_on : (scope : Scope) (paths : List (List Event)) (front : ℕ) (path : List Event)
+    (tried : ℕ) → IsFollowing scope paths front path tried → length scope.moves ≤ tried
+    → IsCounted scope paths (suc front)
+front_on scope paths front path tried following all =
+    record {
+      searched = front_searched scope paths front path tried following all;
+      few = omega (arith, following.few, following.most);
     }

@@ -1,6 +1,7 @@
 -- Every run within the bounds leads to a world that a search has met.
 use Rattle.laws_runs.proofs.Prelude.{ap, append-nil, append_assoc, arith, cases_lt, inl, inr, length-append, refl, subst, sym, ◌∙◌, List, Some, [], false, length, slice_get, suc, ℕ, ◌++◌, ◌+◌, ◌<◌, ◌∷◌, ◌≡◌, ◌≤◌, World, Event}
 use Rattle.laws_runs.proofs.Prelude.{slice_get_within}
+use Rattle.hunt_exact.specs.Exact.{LeadToAll}
 use Rattle.hunt_exact.specs.Searched.{IsFollowed, IsMet, IsSearched, Leads}
 use Rattle.hunt_exact.specs.Within.{AreWithin, FineUpTo, IsAllowed, NeverAmiss, Scope, run_of, world_of}
 
@@ -95,6 +96,10 @@ module _ (scope : Scope) (paths : List (List Event)) (front : ℕ)
         };
       }
 
+  pub reached_within : (events : List Event) → AreWithin scope events → length events ≤ n
+      → IsReached scope paths events
+  reached_within events within short = reached_by [] events within short begun_reached
+
   -- what is within the bounds up to its end is so before
   within_before : (before : List Event) (e : Event) → AreWithin scope (before ++ e ∷ [])
       → AreWithin scope before
@@ -107,19 +112,39 @@ module _ (scope : Scope) (paths : List (List Event)) (front : ℕ)
   pub fine_before : FineUpTo scope n
   fine_before before e within short =
       let reached : IsReached scope paths before =
-      reached_by [] before (within_before before e within) (omega (arith, short)) begun_reached in
+      reached_within before (within_before before e within) (omega (arith, short)) in
       let on : (w : World) × Leads scope before e w × IsMet scope paths (suc (length before)) w =
       leads_on before e reached short (within before e [] refl) in
       on.1.fine
 
--- where all runs that are kept stand before the front, no run within the bounds ends amiss
+-- where all runs that are kept stand before the front, no run within the bounds ends amiss, and each
+-- leads to the world of one of these
+all_before : (paths : List (List Event)) (front n : ℕ) → length paths ≤ front
+    → AreBefore paths front n
+all_before paths front n all k path kept short =
+    let inside : k < length paths = slice_get_within paths k path kept in
+    omega (arith, inside, all)
+
 pub never_amiss : (scope : Scope) (paths : List (List Event)) (front : ℕ)
     → IsSearched scope paths front → length paths ≤ front → NeverAmiss scope
 never_amiss scope paths front searched all before e within =
     fine_before scope paths front searched (suc (length before))
-    (λ k path kept short. let inside : k < length paths = slice_get_within paths k path kept in
-    omega (arith, inside, all))
-    before e within (omega arith)
+    (all_before paths front (suc (length before)) all) before e within (omega arith)
+
+pub lead_to_all : (scope : Scope) (paths : List (List Event)) (front n : ℕ)
+    → IsSearched scope paths front → length paths ≤ front → n ≡ length paths
+    → LeadToAll scope n
+lead_to_all scope paths front n searched all is =
+    record {
+      runs = paths;
+      many = sym is;
+      within = searched.within;
+      all = λ events within.
+          let reached : IsReached scope paths events =
+          reached_within scope paths front searched (length events)
+          (all_before paths front (length events) all) events within (omega arith) in
+          (reached.met.number, reached.met.path, reached.met.kept, reached.met.same);
+    }
 
 -- and else none of up to as many events as that at the front has
 pub fine_up_to : (scope : Scope) (paths : List (List Event)) (front : ℕ) (path : List Event)

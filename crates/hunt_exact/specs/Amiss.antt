@@ -2,8 +2,9 @@
 -- operand, a packet that no place names, a lock that an idle thread owns, or a ring of waiting
 -- threads. A use of a stack location that was returned from otherwise than it was marked is none of
 -- these: only the past of a run tells it. No run of an accepted set has one.
-use Rattle.std.specs.Prelude.{[], length, Option}
+use Rattle.std.specs.Prelude.{Bool, true, false, [], length, Option}
 use Rattle.tell_audit.specs.declared.amiss.Amiss.{Amiss}
+use Rattle.tell_audit.specs.declared.amiss.Amiss.TheVariants.{Stopped, Lost, Left, Ringed, Disagrees}
 use Rattle.tell_audit.specs.Ends.{first_of, or_amiss, stops_with}
 use Rattle.model.specs.declared.event.Reply.{Reply}
 use Rattle.model.specs.Set.{Set}
@@ -16,3 +17,11 @@ abbrev pub amiss_at : Set → World → Reply → Option Amiss
 amiss_at set w reply =
     or_amiss (stops_with reply)
     (first_of (lost_packets w) (left_locks w (length set.devices)) (ringed_threads set w) [])
+
+-- what of all that an audit finds amiss is one of these
+abbrev pub is_sought : Amiss → Bool
+is_sought (Stopped reply) = true
+is_sought (Lost packet) = true
+is_sought (Left lock) = true
+is_sought (Ringed thread) = true
+is_sought (Disagrees location_use) = false

@@ -1,11 +1,14 @@
 -- The events that an exact hunt tries: all that its threads, its devices and its packets have, but
 -- that requests are some of a list, and that IoCancelIrp is called at PASSIVE_LEVEL and, where that is
 -- asked for, at DISPATCH_LEVEL.
-use Rattle.std.specs.Prelude.{ℕ, ◌++◌, zero, suc, Bool, true, false, List, [], ◌∷◌, map}
+use Rattle.std.specs.Prelude.{ℕ, ◌++◌, ◌&&◌, ◌||◌, zero, suc, Bool, true, false, List, [], ◌∷◌, map, nat_eq, nat_lt}
+use Rattle.std.specs.List.{list_any}
 use Rattle.hunt_facts.specs.declared.requests.Request.{Request}
 use Rattle.hunt_facts.specs.Requests.{request_on}
 use Rattle.model.specs.declared.event.Event.{Event}
-use Rattle.model.specs.declared.event.Event.TheVariants.{Cancel, Interrupt, Dpc, StartIo, Step}
+use Rattle.model.specs.declared.event.Event.TheVariants.{Issue, Cancel, Interrupt, Dpc, StartIo, Step}
+use Rattle.model.specs.declared.status.Major.{Major}
+use Rattle.model.specs.Status.{major_code}
 
 -- a step of each of so many threads, and an interrupt of each of so many devices
 abbrev pub steps : ℕ → List Event
@@ -49,3 +52,23 @@ begins_below requests raised packets devices (suc t) =
 abbrev pub tried_events : List Request → Bool → ℕ → ℕ → ℕ → List Event
 tried_events requests raised packets devices threads =
     steps threads ++ interrupts devices ++ begins_below requests raised packets devices threads
+
+-- whether an event is one of these
+abbrev pub is_request : ℕ → Major → ℕ → Request → Bool
+is_request device major argument request =
+    (nat_eq request.device device && nat_eq (major_code request.major) (major_code major))
+    && nat_eq request.argument argument
+
+abbrev pub is_level : Bool → ℕ → Bool
+is_level raised level = nat_eq level 0 || (raised && nat_eq level 2)
+
+abbrev pub is_tried : List Request → Bool → ℕ → ℕ → ℕ → Event → Bool
+is_tried requests raised packets devices threads (Step t) = nat_lt t threads
+is_tried requests raised packets devices threads (Interrupt d) = nat_lt d devices
+is_tried requests raised packets devices threads (Dpc t d) = nat_lt t threads && nat_lt d devices
+is_tried requests raised packets devices threads (StartIo t d) =
+    nat_lt t threads && nat_lt d devices
+is_tried requests raised packets devices threads (Cancel t n level) =
+    (nat_lt t threads && nat_lt n packets) && is_level raised level
+is_tried requests raised packets devices threads (Issue t d major argument) =
+    nat_lt t threads && list_any (is_request d major argument) requests

@@ -1,6 +1,6 @@
 -- How far a search has come: the runs that it keeps, one for each world that it has met, in the order
 -- in which it met them.
-use Rattle.std.specs.Prelude.{ℕ, ◌≡◌, ◌<◌, ◌≤◌, ◌++◌, ⊤, suc, Bool, true, false, List, [], ◌∷◌, length, Option, None, Some, slice_get}
+use Rattle.std.specs.Prelude.{ℕ, ◌≡◌, ◌<◌, ◌≤◌, ◌+◌, ◌*◌, ◌++◌, ⊤, suc, Bool, true, false, List, [], ◌∷◌, length, Option, None, Some, slice_get}
 use Rattle.hunt_exact.specs.Within.{AreWithin, EndsFine, IsAllowed, Scope, run_of, world_of}
 use Rattle.hunt_exact.specs.declared.visiting.Outcome.{Outcome}
 use Rattle.hunt_exact.specs.declared.visiting.Outcome.TheVariants.{Stays, Goes, Ends}
@@ -13,6 +13,12 @@ pub record IsAt (scope : Scope) (path : List Event) (m : Machine) : Type 0 where
   pub set : m.set ≡ scope.set
   pub shows : ShowsWhole m scope.threads path
   pub on : m.stopped ≡ false
+
+-- a machine shows a run within the bounds
+pub record StandsWithin (scope : Scope) (m : Machine) (events : List Event) : Type 0 where
+  pub set : m.set ≡ scope.set
+  pub shows : ShowsWhole m scope.threads events
+  pub within : AreWithin scope events
 
 -- one of the runs that are kept, of at most so many events, leads to a world, and hasn't stopped
 pub record IsMet (scope : Scope) (paths : List (List Event)) (n : ℕ) (w : World) : Type 0 where
@@ -43,9 +49,19 @@ pub record IsFollowed (scope : Scope) (paths : List (List Event)) (path : List E
   pub goes : GoesTo scope path e world
   pub met : IsMet scope paths (suc (length path)) world
 
+-- a run that is kept goes on by an event behind another one, and no more are kept before it than
+-- there are events behind that one and those before it
+pub record IsGrown (scope : Scope) (paths : List (List Event)) (k : ℕ) (path : List Event)
+    : Type 0 where
+  pub number : ℕ
+  pub before : List Event
+  pub kept : slice_get paths number ≡ Some before
+  pub longer : length path ≡ suc (length before)
+  pub few : k ≤ suc number * length scope.moves
+
 -- the runs that are kept are within the bounds and haven't stopped; they stand by their lengths, and
--- none is longer by more than one than that at the front; each event that is allowed behind one
--- before the front was followed
+-- none is longer by more than one than that at the front; each but the first goes on behind another;
+-- each event that is allowed behind one before the front was followed
 pub record IsSearched (scope : Scope) (paths : List (List Event)) (front : ℕ) : Type 0 where
   pub first : slice_get paths 0 ≡ Some []
   pub on : (k : ℕ) (path : List Event) → slice_get paths k ≡ Some path
@@ -57,14 +73,23 @@ pub record IsSearched (scope : Scope) (paths : List (List Event)) (front : ℕ) 
   pub near : (k l : ℕ) (path other : List Event) → front ≤ k → slice_get paths k ≡ Some path
       → slice_get paths l ≡ Some other
       → length other ≤ suc (length path)
+  pub grown : (k : ℕ) (path : List Event) → 0 < k → slice_get paths k ≡ Some path
+      → IsGrown scope paths k path
   pub followed : (k : ℕ) (path : List Event) (e : Event) → k < front
       → slice_get paths k ≡ Some path → IsAllowed scope (world_of scope path) e
       → IsFollowed scope paths path e
+
+-- and no more are kept, beside the first, than there are events behind those before the front
+pub record IsCounted (scope : Scope) (paths : List (List Event)) (front : ℕ) : Type 0 where
+  pub searched : IsSearched scope paths front
+  pub few : length paths ≤ 1 + front * length scope.moves
 
 -- and so were the first events of the list behind the run at the front
 pub record IsFollowing (scope : Scope) (paths : List (List Event)) (front : ℕ) (path : List Event)
     (tried : ℕ) : Type 0 where
   pub searched : IsSearched scope paths front
+  pub few : length paths ≤ 1 + front * length scope.moves + tried
+  pub most : tried ≤ length scope.moves
   pub at : slice_get paths front ≡ Some path
   pub followed : (i : ℕ) (e : Event) → i < tried → slice_get scope.moves i ≡ Some e
       → IsAllowed scope (world_of scope path) e → IsFollowed scope paths path e
@@ -131,7 +156,7 @@ pub record IsFound (scope : Scope) (path : List Event) (paths : List (List Event
   pub allowed : IsAllowed scope (world_of scope path) e
 
 abbrev pub IsExpanded : Scope → List Event → List (List Event) → ℕ → Option Event → Type 0
-IsExpanded scope path paths front None = IsSearched scope paths (suc front)
+IsExpanded scope path paths front None = IsCounted scope paths (suc front)
 IsExpanded scope path paths front (Some e) = IsFound scope path paths front e
 
 abbrev pub HasFollowedEach : Scope → List Event → Machine → List (List Event) → List (List Event)
@@ -143,5 +168,5 @@ HasFollowedEach scope path before paths later found =
 abbrev pub HasExpanded : Scope → List Event → List (List Event) → List (List Event) → Option Event
     → Type 0
 HasExpanded scope path paths later found =
-    (front : ℕ) → IsSearched scope paths front → slice_get paths front ≡ Some path
+    (front : ℕ) → IsCounted scope paths front → slice_get paths front ≡ Some path
     → IsExpanded scope path later front found

@@ -1,8 +1,9 @@
 -- The runs within the bounds of an exact hunt, and what it says of them: their events are some of a
 -- list, and they issue so many packets at most in all. Nothing else bounds them: they may be of any
 -- length.
-use Rattle.std.specs.Prelude.{ℕ, ◌≡◌, ◌<◌, ◌++◌, Bool, true, nat_lt, List, [], ◌∷◌, length, None, Some, slice_get}
+use Rattle.std.specs.Prelude.{ℕ, ◌≡◌, ◌<◌, ◌++◌, Bool, true, nat_lt, List, [], ◌∷◌, length, Option, None, Some, slice_get}
 use Rattle.hunt_exact.specs.Amiss.{amiss_at}
+use Rattle.tell_audit.specs.declared.amiss.Amiss.{Amiss}
 use Rattle.model.specs.declared.event.Event.{Event}
 use Rattle.model.specs.declared.event.Event.TheVariants.{Issue, Cancel, Interrupt, Dpc, StartIo, Step}
 use Rattle.model.specs.Machine.{reply_to}
@@ -49,12 +50,18 @@ AreWithin scope events =
     (before : List Event) (e : Event) (after : List Event) → events ≡ before ++ e ∷ after
     → IsAllowed scope (world_of scope before) e
 
--- nothing is amiss behind the last event of a run
-abbrev pub EndsFine : Scope → List Event → Event → Type 0
-EndsFine scope before e =
+-- what is amiss behind the last event of a run
+abbrev pub amiss_behind : Scope → List Event → Event → Option Amiss
+amiss_behind scope before e =
     amiss_at scope.set (world_of scope (before ++ e ∷ []))
     (reply_to scope.set scope.threads before e)
-    ≡ None
+
+-- nothing, and this
+abbrev pub EndsFine : Scope → List Event → Event → Type 0
+EndsFine scope before e = amiss_behind scope before e ≡ None
+
+abbrev pub EndsAmiss : Scope → List Event → Event → Amiss → Type 0
+EndsAmiss scope before e amiss = amiss_behind scope before e ≡ Some amiss
 
 -- no run within the bounds ends amiss, of any length; and none of up to so many events
 abbrev pub NeverAmiss : Scope → Type 0

@@ -2,11 +2,12 @@
 
 ghost use Rattle.std.specs.Prelude.{◌≡◌, [], IfOk, IsTrue, None, false, is_some};
 ghost use Rattle.tell_audit.specs.Ends.{first_of, stops_with};
-ghost use Rattle.hunt_exact.specs.Amiss.{amiss_at};
+ghost use Rattle.hunt_exact.specs.Amiss.{amiss_at, is_sought};
 
 use checked::Checked;
 use model::event::Reply;
 use std::alloc::{AllocError, Global};
+use tell_audit::amiss::Amiss;
 use tell_audit::findings::ringed_threads;
 use tell_audit::left::{LeftLock, left_locks};
 use tell_audit::naming::lost_packets;
@@ -39,4 +40,11 @@ pub(crate) fn is_amiss(alloc: Global, machine: &Checked, reply: &Reply) -> Resul
     let ringed = ringed_threads(alloc, machine)?;
     let fine = is_fine(&lost, &left, &ringed);
     Ok(!fine)
+}
+
+/// Whether what an audit finds amiss is sought: all but a status that disagrees with its mark.
+pub(crate) fn is_sought(amiss: &Amiss) -> bool
+    ensures { result ≡ is_sought amiss.now }
+{
+    !matches!(amiss, Amiss::Disagrees(_))
 }

@@ -2,6 +2,7 @@
 //! has seen all, no run within the bounds ends amiss.
 #![tactic(auto)]
 
+pub mod allowed;
 mod amiss;
 mod index;
 mod machines;

@@ -1,14 +1,18 @@
 //! An exact hunt: a search of the runs within bounds, breadth first, that takes no world for
 //! another one.
 
-ghost use Rattle.std.specs.Prelude.{◌≡◌, ◌≤◌, ◌++◌, ◌∷◌, [], IfOk, length};
-ghost use Rattle.hunt_exact.specs.Exact.{IsAmissBehind, IsEnded, IsExact, IsVisited, ended_by};
-ghost use Rattle.hunt_exact.specs.Exact.{scope_of};
-ghost use Rattle.hunt_exact.specs.Searched.{IsSearched};
+ghost use Rattle.std.specs.Prelude.{◌≡◌, ◌<◌, ◌≤◌, ◌++◌, ◌∷◌, ◌⊎◌, [], IfOk, IfSome, IsTrue, Some};
+ghost use Rattle.std.specs.Prelude.{length, true};
+ghost use Rattle.hunt_exact.specs.Amiss.{is_sought};
+ghost use Rattle.hunt_exact.specs.Exact.{IsAmissBehind, IsEnded, IsExact, IsFar, IsShortest};
+ghost use Rattle.hunt_exact.specs.Exact.{IsVisited, ended_by, scope_of};
+ghost use Rattle.hunt_exact.specs.Searched.{IsCounted};
 ghost use Rattle.hunt_exact.specs.Within.{AreWithin, FineUpTo, Scope};
 ghost use Rattle.model.specs.declared.limits.TheConstants.{MAX_THREADS};
+ghost use Rattle.tell_audit.specs.declared.ending.Ending.TheVariants.{Fails};
 
-use crate::machines::machine_at;
+use crate::amiss::is_sought;
+use crate::machines::first_machine;
 use crate::moves::{Trying, tried_events};
 use crate::scope::Scope;
 use crate::seen::Seen;
@@ -18,6 +22,7 @@ use hunt_facts::facts::Facts;
 use model::event::Event;
 use report_progress::progress::{Progress, tell_at};
 use std::alloc::{AllocError, Global};
+use tell_audit::amiss::Amiss;
 use tell_audit::ending::{Ending, ending_of};
 
 /// How far a search goes.
@@ -35,8 +40,8 @@ pub struct Shortest {
     /// Its events before the last one.
     pub before: Vec<Event>,
     pub last: Event,
-    /// How it ends.
-    pub ending: Ending,
+    /// What is amiss at its end.
+    pub amiss: Amiss,
 }
 
 /// What comes of an exact hunt.
@@ -44,9 +49,9 @@ pub struct Shortest {
 pub enum Exactly {
     /// A shortest run that ends amiss.
     Found(Shortest),
-    /// No run within the bounds ends amiss, of any length: they lead to so many worlds.
+    /// No run within the bounds ends amiss, of any length: they lead to so many worlds at most.
     Never { worlds: usize },
-    /// None of up to so many events does: so many worlds were met, and there are more.
+    /// None of up to so many events does: a limit was reached where so many worlds were met.
     More { worlds: usize, events: usize },
 }
 
@@ -55,29 +60,43 @@ pub enum Exactly {
 pub(crate) enum Searched {
     /// Behind the run of this number something is amiss after this event.
     Amiss { number: usize, event: Event },
-    /// All worlds were met.
-    All,
-    /// Nothing is amiss in runs of up to so many events.
-    More { events: usize },
+    /// All worlds were met, which are so many at most.
+    All { worlds: usize },
+    /// Nothing is amiss in runs of up to so many events, and a limit was reached.
+    More { worlds: usize, events: usize },
 }
 
 /// Whether a run of so many events is as long as one may be.
-fn is_far(limits: Limits, events: usize) -> bool {
-    match limits.events {
+fn is_far(bound: Option<u64>, events: usize) -> bool
+    ensures { IsTrue result → IsFar bound events }
+{
+    match bound {
         Some(most) => events as u64 >= most,
         None => false,
     }
 }
 
-/// How a search stands where the run of a number is at the front.
-fn standing_at(seen: &Seen, number: usize) -> Searched
-    ensures { (scope : Scope) → IsSearched scope seen.now number
-        → IsEnded scope seen.now result }
+/// Whether a limit is reached behind runs of so many events, where so many worlds were met.
+fn is_reached(limits: Limits, worlds: usize, events: usize) -> bool
+    ensures { IsTrue result → IsFar limits.events events ⊎ (limits.worlds < worlds) }
 {
-    let Some(path) = seen.path(number) else {
-        return Searched::All;
+    if worlds > limits.worlds {
+        return true;
+    }
+    is_far(limits.events, events)
+}
+
+/// How a search stands where the run at the front is the first that may not be kept.
+fn standing_at(seen: &Seen, limits: Limits) -> Searched
+    ensures { (scope : Scope) → IsCounted scope seen.now limits.worlds
+        → IsEnded scope limits seen.now result }
+{
+    let worlds = seen.len();
+    let Some(path) = seen.path(limits.worlds) else {
+        return Searched::All { worlds };
     };
-    Searched::More { events: path.len() }
+    let events = path.len();
+    Searched::More { worlds, events }
 }
 
 /// Where something is amiss after an event behind the run of a number, the search has ended.
@@ -99,15 +118,17 @@ fn visit(
     limits: Limits,
     number: usize,
 ) -> Result<Option<Searched>, AllocError>
-    ensures { IfOk result (λ ended. IsSearched scope.now seen.old number
-        → IsVisited scope.now seen.new number ended) }
+    ensures { IfOk result (λ ended. IsCounted scope.now seen.old number
+        → IsVisited scope.now limits seen.new number ended) }
 {
+    let worlds = seen.len();
     let Some(path) = seen.path(number) else {
-        return Ok(Some(Searched::All));
+        return Ok(Some(Searched::All { worlds }));
     };
-    let far = seen.len() > limits.worlds || is_far(limits, path.len());
-    if far {
-        return Ok(Some(Searched::More { events: path.len() }));
+    let events = path.len();
+    let reached = is_reached(limits, worlds, events);
+    if reached {
+        return Ok(Some(Searched::More { worlds, events }));
     }
     let front = copied(alloc, path)?;
     let found = expand(alloc, scope, seen, front.as_slice())?;
@@ -139,8 +160,8 @@ fn search<P: Progress>(
     limits: Limits,
     progress: &P,
 ) -> Result<Searched, AllocError>
-    ensures { IfOk result (λ ended. IsSearched scope.now seen.old 0
-        → IsEnded scope.now seen.new ended) }
+    ensures { IfOk result (λ ended. IsCounted scope.now seen.old 0
+        → IsEnded scope.now limits seen.new ended) }
 {
     for number in 0..limits.worlds {
         let visited = visit(alloc, scope, seen, limits, number)?;
@@ -149,20 +170,43 @@ fn search<P: Progress>(
         }
         tell(progress, seen, number);
     }
-    let ended = standing_at(seen, limits.worlds);
+    let ended = standing_at(seen, limits);
     Ok(ended)
 }
 
-/// The run of these events and a last one, behind which something is amiss.
+/// What is amiss at an end, if that is sought.
+fn sought_in(ending: &Ending) -> Option<Amiss>
+    ensures { IfSome result (λ amiss. (ending.now ≡ Fails amiss) × (is_sought amiss ≡ true)) }
+{
+    match ending {
+        Ending::Fails(amiss) => {
+            let sought = is_sought(amiss);
+            if sought { Some(*amiss) } else { None }
+        }
+        Ending::Stuck(_) => None,
+    }
+}
+
+/// What is amiss where a run has ended so, if that is sought.
+fn sought_at(ending: &Option<Ending>) -> Option<Amiss>
+    ensures { IfSome result
+        (λ amiss. (ending.now ≡ Some (Fails amiss)) × (is_sought amiss ≡ true)) }
+{
+    match ending {
+        Some(ending) => sought_in(ending),
+        None => None,
+    }
+}
+
+/// The run of these events and a last one, behind which something is amiss: so it ends with that.
 fn find_at(
     alloc: Global,
     scope: &Scope,
     before: Vec<Event>,
     last: Event,
-    worlds: usize,
-) -> Result<Exactly, AllocError>
-    ensures { IfOk result (λ found. AreWithin scope.now (before.items ++ last ∷ [])
-        → FineUpTo scope.now (length before.items) → IsExact scope.now found) }
+) -> Result<Shortest, AllocError>
+    ensures { IfOk result (λ find. AreWithin scope.now (before.items ++ last ∷ [])
+        → FineUpTo scope.now (length before.items) → IsShortest scope.now find) }
 {
     let ending = ending_of(
         alloc,
@@ -171,37 +215,33 @@ fn find_at(
         before.as_slice(),
         &last,
     )?;
-    match ending {
-        Some(ending) => Ok(Exactly::Found(Shortest {
-            before,
-            last,
-            ending,
-        })),
-        None => {
-            let events = before.len();
-            Ok(Exactly::More { worlds, events })
-        }
-    }
+    let Some(amiss) = sought_at(&ending) else {
+        return Err(AllocError);
+    };
+    Ok(Shortest {
+        before,
+        last,
+        amiss,
+    })
 }
 
-/// The run of a number with one event more, where something is amiss behind it.
+/// The run of a number, which is kept, with one event more, where something is amiss behind it.
 fn found(
     alloc: Global,
     scope: &Scope,
     seen: &Seen,
     number: usize,
     event: Event,
-) -> Result<Exactly, AllocError>
-    ensures { IfOk result (λ found. IsAmissBehind scope.now seen.now number event
-        → IsExact scope.now found) }
+) -> Result<Shortest, AllocError>
+    ensures { IfOk result (λ find. IsAmissBehind scope.now seen.now number event
+        → IsShortest scope.now find) }
 {
-    let worlds = seen.len();
     let Some(path) = seen.path(number) else {
-        return Ok(Exactly::More { worlds, events: 0 });
+        return Err(AllocError);
     };
     let before = copied(alloc, path)?;
-    let answer = find_at(alloc, scope, before, event, worlds)?;
-    Ok(answer)
+    let find = find_at(alloc, scope, before, event)?;
+    Ok(find)
 }
 
 /// What is answered where a search has ended so.
@@ -209,20 +249,45 @@ fn answered(
     alloc: Global,
     scope: &Scope,
     seen: &Seen,
+    limits: Limits,
     ended: Searched,
 ) -> Result<Exactly, AllocError>
-    ensures { IfOk result (λ answer. IsEnded scope.now seen.now ended
-        → IsExact scope.now answer) }
+    ensures { IfOk result (λ answer. IsEnded scope.now limits seen.now ended
+        → IsExact scope.now limits answer) }
 {
-    let worlds = seen.len();
     match ended {
         Searched::Amiss { number, event } => {
-            let answer = found(alloc, scope, seen, number, event)?;
-            Ok(answer)
+            let find = found(alloc, scope, seen, number, event)?;
+            Ok(Exactly::Found(find))
         }
-        Searched::All => Ok(Exactly::Never { worlds }),
-        Searched::More { events } => Ok(Exactly::More { worlds, events }),
+        Searched::All { worlds } => Ok(Exactly::Never { worlds }),
+        Searched::More { worlds, events } => Ok(Exactly::More { worlds, events }),
     }
+}
+
+/// Nothing but the run of no events.
+fn first_seen(alloc: Global, scope: &Scope) -> Result<Seen, AllocError>
+    ensures { IfOk result (λ seen. seen ≡ [] ∷ []) }
+{
+    let first = first_machine(alloc, scope.set(), scope.threads())?;
+    Seen::of(alloc, &first, scope.facts())
+}
+
+/// Searches the runs of a scope, from those that are kept on.
+fn hunt_from<P: Progress>(
+    alloc: Global,
+    scope: &Scope,
+    seen: &mut Seen,
+    limits: Limits,
+    progress: &P,
+) -> Result<Exactly, AllocError>
+    ensures { IfOk result (λ answer. IsCounted scope.now seen.old 0
+        → IsExact scope.now limits answer) }
+{
+    let ended = search(alloc, scope, seen, limits, progress)?;
+    progress.clear();
+    let answer = answered(alloc, scope, seen, limits, ended)?;
+    Ok(answer)
 }
 
 /// Searches the runs of a scope.
@@ -232,13 +297,10 @@ fn hunt_in<P: Progress>(
     limits: Limits,
     progress: &P,
 ) -> Result<Exactly, AllocError>
-    ensures { IfOk result (IsExact scope.now) }
+    ensures { IfOk result (IsExact scope.now limits) }
 {
-    let first = machine_at(alloc, scope, [].as_slice())?;
-    let mut seen = Seen::of(alloc, &first, scope.facts())?;
-    let ended = search(alloc, scope, &mut seen, limits, progress)?;
-    progress.clear();
-    let answer = answered(alloc, scope, &seen, ended)?;
+    let mut seen = first_seen(alloc, scope)?;
+    let answer = hunt_from(alloc, scope, &mut seen, limits, progress)?;
     Ok(answer)
 }
 
@@ -281,7 +343,7 @@ pub fn hunt_exactly<P: Progress>(
     requires some { 1 ≤ threads }
     requires few { threads ≤ MAX_THREADS }
     ensures { IfOk result (IsExact (scope_of set.now threads trying.now.packets
-        trying.now.requests.items trying.now.raised)) }
+        trying.now.requests.items trying.now.raised) limits) }
 {
     let scope = scope_of(alloc, set, threads, trying)?;
     let answer = hunt_in(alloc, &scope, limits, progress)?;

@@ -25,12 +25,13 @@ pub(crate) enum Outcome {
 }
 
 /// Whether an event sends no packet too many where a machine stands.
-fn is_open(packets: u64, machine: &Checked, event: &Event) -> bool
+pub(crate) fn is_open(packets: u64, machine: &Checked, event: &Event) -> bool
     ensures { result ≡ is_open packets machine.now.world event.now }
 {
     match event {
         Event::Issue { .. } => machine.shared().issued() < packets,
-        _ => true,
+        Event::Cancel { .. } | Event::Interrupt { .. } => true,
+        Event::Dpc { .. } | Event::StartIo { .. } | Event::Step { .. } => true,
     }
 }
 

@@ -1,5 +1,5 @@
 -- What a search answers.
-use Rattle.std.specs.Prelude.{⊤, Some}
+use Rattle.std.specs.Prelude.{⊤, Bool, true, false, Some}
 use Rattle.tell_audit.specs.declared.ending.Ending.{Ending}
 use Rattle.tell_audit.specs.declared.ending.Ending.TheVariants.{Fails, Stuck}
 use Rattle.tell_audit.specs.Ends.{EndsSo}
@@ -10,6 +10,7 @@ use Rattle.hunt_facts.specs.declared.bounds.Goal.TheVariants.{Amiss, AmissOrStuc
 use Rattle.hunt_search.specs.declared.search.Hunted.{Hunted}
 use Rattle.hunt_search.specs.declared.search.Hunted.TheVariants.{Found, All, More}
 use Rattle.model.specs.Set.{Set}
+use Rattle.model.specs.Typable.{IsTypable}
 
 -- such an end is looked for: one at which nothing is amiss only where this is asked
 abbrev pub IsWanted : Goal → Ending → Type 0
@@ -27,3 +28,8 @@ abbrev pub IsHunted : Set → Bounds → Hunted → Type 0
 IsHunted set bounds (Found find) = IsFind set bounds find
 IsHunted set bounds (All worlds) = ⊤
 IsHunted set bounds (More worlds events) = ⊤
+
+-- whether a set is refused
+abbrev pub TellsRefused : Set → Bool → Type 0
+TellsRefused set true = IsTypable set → ⊥
+TellsRefused set false = IsTypable set

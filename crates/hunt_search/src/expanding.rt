@@ -40,14 +40,14 @@ pub(crate) fn expand(
     number: usize,
 ) -> Result<Option<Event>, AllocError> {
     let path = worlds.path(alloc, number)?;
-    let run = run_at(alloc, set, plan, path.as_slice())?;
+    let mut run = run_at(alloc, set, plan, path.as_slice())?;
     let moves = moves_of(alloc, run.machine(), plan.facts(), plan.bounds())?;
     let place = Place {
         number,
         path,
         moves,
     };
-    try_moves(alloc, plan, worlds, &place, run)
+    try_moves(alloc, plan, worlds, &place, &mut run)
 }
 
 /// The run of these events.
@@ -66,23 +66,37 @@ fn try_moves(
     plan: &Plan,
     worlds: &mut Worlds,
     place: &Place,
-    mut run: Rehearsal,
+    run: &mut Rehearsal,
 ) -> Result<Option<Event>, AllocError> {
     let moves = place.moves.as_slice();
     for tried in 0..moves.len() {
         let Some(event) = moves.get(tried) else {
             return Ok(None);
         };
-        match attempt(&mut run, event)? {
-            Outcome::Stays => continue,
-            Outcome::Goes => worlds.add(&run, plan, place.number, *event)?,
+        match attempt(run, event)? {
+            Outcome::Stays => {}
+            Outcome::Goes => {
+                worlds.add(run, plan, place.number, *event)?;
+                if tried.saturating_add(1) < moves.len() {
+                    come_back(alloc, plan, place, run)?;
+                }
+            }
             Outcome::Ends => return Ok(Some(*event)),
-        }
-        if tried.saturating_add(1) < moves.len() {
-            run = run_at(alloc, run.machine().set(), plan, place.path.as_slice())?;
         }
     }
     Ok(None)
+}
+
+/// Makes a run that has gone on come to a place again.
+fn come_back(
+    alloc: Global,
+    plan: &Plan,
+    place: &Place,
+    run: &mut Rehearsal,
+) -> Result<(), AllocError> {
+    let again = run_at(alloc, run.machine().set(), plan, place.path.as_slice())?;
+    *run = again;
+    Ok(())
 }
 
 /// What comes of an event in a place to which a run has come.

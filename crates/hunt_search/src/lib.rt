@@ -6,4 +6,5 @@ mod graph;
 mod moves;
 mod plan;
 pub mod search;
+pub mod verdict;
 mod worlds;

@@ -3,13 +3,12 @@
 ghost use Rattle.std.specs.Prelude.{◌≡◌, ◌≤◌, IfOk};
 ghost use Rattle.model.specs.declared.limits.TheConstants.{MAX_THREADS};
 
+use crate::verdict::is_refused;
 use driver_set::DriverSet;
 use hunt_facts::bounds::Bounds;
 use hunt_facts::facts::Facts;
-use model::abs::Rule;
 use std::alloc::{AllocError, Global};
 use std::marker::Model;
-use verifier::verify;
 
 /// The plan of a search on 1 to `MAX_THREADS` threads.
 #[derive(Drop)]
@@ -31,18 +30,6 @@ impl Model for Plan {
 
     ghost invariant = { λ plan.
         (1 ≤ plan.within.threads) × (plan.within.threads ≤ MAX_THREADS) };
-}
-
-/// Whether a set is refused.
-fn is_refused(alloc: Global, set: &DriverSet) -> Result<bool, AllocError> {
-    let Ok(set) = set.copy(alloc) else {
-        return Err(AllocError);
-    };
-    match verify(alloc, set) {
-        Ok(_) => Ok(false),
-        Err((_, refusal)) if refusal.rule == Rule::Memory => Err(AllocError),
-        Err(_) => Ok(true),
-    }
 }
 
 impl Plan {

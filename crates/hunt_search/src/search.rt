@@ -55,7 +55,8 @@ pub fn is_wanted(goal: Goal, ending: &Ending) -> bool
 {
     match (goal, ending) {
         (Goal::Amiss, Ending::Stuck(_)) => false,
-        _ => true,
+        (Goal::Amiss, Ending::Fails(_)) => true,
+        (Goal::AmissOrStuck, Ending::Fails(_) | Ending::Stuck(_)) => true,
     }
 }
 
@@ -78,11 +79,24 @@ pub fn hunt<P: Progress>(
 {
     let plan = Plan::of(alloc, set, bounds)?;
     let mut worlds = Worlds::new(alloc, bounds.goal);
-    let searched = search(alloc, set, &plan, &mut worlds, progress)?;
+    hunt_by(alloc, set, &plan, &mut worlds, progress)
+}
+
+/// Searches by a plan, where no world was seen yet.
+fn hunt_by<P: Progress>(
+    alloc: Global,
+    set: &DriverSet,
+    plan: &Plan,
+    worlds: &mut Worlds,
+    progress: &P,
+) -> Result<Hunted, AllocError>
+    ensures { IfOk result (IsHunted set.now plan.now) }
+{
+    let searched = search(alloc, set, plan, worlds, progress)?;
     progress.clear();
-    match found(alloc, set, &plan, &worlds, searched)? {
+    match found(alloc, set, plan, worlds, searched)? {
         Some(find) => Ok(Hunted::Found(find)),
-        None => Ok(none_found(&worlds, searched)),
+        None => Ok(none_found(worlds, searched)),
     }
 }
 
@@ -95,8 +109,7 @@ fn search<P: Progress>(
     progress: &P,
 ) -> Result<Searched, AllocError> {
     let bounds = plan.bounds();
-    let first = run_at(alloc, set, plan, [].as_slice())?;
-    worlds.begin(&first, plan)?;
+    begin(alloc, set, plan, worlds)?;
     for number in 0..bounds.worlds {
         if number >= worlds.len() {
             return Ok(Searched::All);
@@ -113,6 +126,17 @@ fn search<P: Progress>(
     Ok(Searched::More {
         events: worlds.depth(bounds.worlds),
     })
+}
+
+/// Adds the world of a run before its first event.
+fn begin(
+    alloc: Global,
+    set: &DriverSet,
+    plan: &Plan,
+    worlds: &mut Worlds,
+) -> Result<(), AllocError> {
+    let first = run_at(alloc, set, plan, [].as_slice())?;
+    worlds.begin(&first, plan)
 }
 
 /// Whether a run of so many events is as long as one may be.
