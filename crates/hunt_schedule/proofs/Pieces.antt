@@ -39,3 +39,9 @@ pub four : (a b c d e : List ℕ) → (((a ++ b) ++ c) ++ d) ++ e ≡ a ++ (b ++
 four a b c d e =
     append_assoc ((a ++ b) ++ c) d e ∙ append_assoc (a ++ b) c (d ++ e)
     ∙ append_assoc a b (c ++ (d ++ e))
+
+pub eight : (a b c d e f g h : List ℕ)
+    → ((((((a ++ b) ++ c) ++ d) ++ e) ++ f) ++ g) ++ h
+    ≡ a ++ (b ++ (c ++ (d ++ (e ++ (f ++ (g ++ h))))))
+eight a b c d e f g h =
+    append_assoc (((((a ++ b) ++ c) ++ d) ++ e) ++ f) g h ∙ seven a b c d e f (g ++ h)

@@ -68,7 +68,7 @@ each_between before (n ∷ numbers) after =
 
 abbrev pub standing_words : Standing → List ℕ
 standing_words standing =
-    codes "stuck: nothing that follows comes to rest"
+    codes "not at rest"
     ++ (each_between (codes "; thread ") standing.threads.items (codes " is busy")
     ++ (each_between (codes "; packet ") standing.packets.items (codes " is live")
     ++ each_between (codes "; device ") standing.devices.items (codes " is busy for StartIo")))

@@ -5,6 +5,7 @@ use Rattle.std.specs.Prelude.{ℕ, ◌≡◌, ◌≤◌, ◌++◌, ◌∷◌, Li
 use Rattle.std.specs.List.{starts_with}
 use Rattle.tell_audit.specs.declared.ending.Ending.{Ending}
 use Rattle.tell_audit.specs.Ends.{EndsSo}
+use Rattle.hunt_schedule.specs.declared.reading.Listed.{Listed}
 use Rattle.hunt_schedule.specs.declared.telling.Told.{Told}
 use Rattle.hunt_schedule.specs.declared.telling.Told.TheVariants.{Found, Unlisted, All, More}
 use Rattle.hunt_schedule.specs.Headline.{headline}
@@ -16,6 +17,13 @@ use Rattle.interleave.specs.declared.schedule.Schedule.{Schedule}
 use Rattle.interleave.specs.Listing.{Lists}
 use Rattle.model.specs.declared.event.Event.{Event}
 use Rattle.model.specs.Set.{Set}
+
+-- a text lists a schedule of so many threads and these events
+pub record IsListed (text : List ℕ) (listed : Listed) : Type 0 where
+  pub schedule : Schedule
+  pub lists : Lists text schedule
+  pub threads : schedule.threads ≡ listed.threads
+  pub events : schedule.events ≡ listed.run.items
 
 -- the run of these events ends as a text tells first, on the threads of a hunt that looks for such an
 -- end

@@ -46,7 +46,7 @@ impl Telling<'_> {
                 words.add(" is queued");
             }
             Event::Cancel { packet, .. } => add_packet(words, packet, " is cancelled: "),
-            _ => {}
+            Event::Issue { .. } | Event::Dpc { .. } | Event::StartIo { .. } => {}
         }
     }
 
@@ -97,7 +97,7 @@ impl Telling<'_> {
                 add_bug(words, &self.book, bug);
             }
             Reply::Wrong(_) => words.add("; an operand of a wrong kind"),
-            _ => {}
+            Reply::Stepped | Reply::Finished | Reply::Idle | Reply::Refused => {}
         }
     }
 }

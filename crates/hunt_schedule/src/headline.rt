@@ -35,7 +35,7 @@ fn add_ending(line: &mut Vec<u8>, ending: &Ending) -> Result<(), AllocError>
 fn add_standing(line: &mut Vec<u8>, standing: &Standing) -> Result<(), AllocError>
     ensures { OnOk result (line.new.items ≡ line.old.items ++ standing_words standing.now) }
 {
-    add(line, b"stuck: nothing that follows comes to rest")?;
+    add(line, b"not at rest")?;
     add_each(line, b"; thread ", standing.threads.as_slice(), b" is busy")?;
     add_each(line, b"; packet ", standing.packets.as_slice(), b" is live")?;
     let devices = standing.devices.as_slice();
@@ -95,7 +95,8 @@ fn add_reply(line: &mut Vec<u8>, reply: &Reply) -> Result<(), AllocError>
     match *reply {
         Reply::Bug(bug) => add_bug(line, bug),
         Reply::Wrong(place) => add_place(line, place),
-        _ => Ok(()),
+        Reply::Started(_) | Reply::Stepped | Reply::Finished | Reply::Topped { .. } => Ok(()),
+        Reply::Waited | Reply::Idle | Reply::Refused => Ok(()),
     }
 }
 

@@ -1,8 +1,8 @@
 //! The lines that are told of a hunt that has found no run, or tells none.
 
-ghost use Rattle.std.specs.Prelude.{◌≡◌, IfOk};
-ghost use Rattle.hunt_schedule.specs.Lines.{all_line, fine_line, more_line, never_line};
-ghost use Rattle.hunt_schedule.specs.Lines.{unlisted_line, worlds_line};
+ghost use Rattle.std.specs.Prelude.{◌≡◌, ◌++◌, IfOk, OnOk};
+ghost use Rattle.hunt_schedule.specs.Lines.{all_line, fine_line, line_end, more_line, never_line};
+ghost use Rattle.hunt_schedule.specs.Lines.{unlisted_line};
 
 use crate::headline::headline;
 use hunt_facts::bounds::Bounds;
@@ -19,14 +19,9 @@ pub(crate) fn unlisted_line(alloc: Global, ending: &Ending) -> Result<Vec<u8>, A
     Ok(line)
 }
 
-/// That all worlds were seen, of so many packets in such words.
-fn worlds_line(
-    alloc: Global,
-    bounds: Bounds,
-    worlds: u64,
-    words: &[u8],
-) -> Result<Vec<u8>, AllocError>
-    ensures { IfOk result (λ line. line.items ≡ worlds_line bounds worlds words.now) }
+/// That all worlds were seen.
+pub(crate) fn all_line(alloc: Global, bounds: Bounds, worlds: u64) -> Result<Vec<u8>, AllocError>
+    ensures { IfOk result (λ line. line.items ≡ all_line bounds worlds) }
 {
     let mut line = Vec::new(alloc);
     add(&mut line, b"none: all ")?;
@@ -35,22 +30,43 @@ fn worlds_line(
     add_number(&mut line, u64::from(bounds.threads))?;
     add(&mut line, b" threads and ")?;
     add_number(&mut line, bounds.packets as u64)?;
-    add(&mut line, words)?;
+    add(&mut line, b" packets seen\n")?;
     Ok(line)
 }
 
-/// That all worlds were seen.
-pub(crate) fn all_line(alloc: Global, bounds: Bounds, worlds: u64) -> Result<Vec<u8>, AllocError>
-    ensures { IfOk result (λ line. line.items ≡ all_line bounds worlds) }
+/// Adds what isn't looked for in a refused set where packets are bounded in all, and the end of the
+/// line.
+fn add_end(line: &mut Vec<u8>, refused: bool) -> Result<(), AllocError>
+    ensures { OnOk result (line.new.items ≡ line.old.items ++ line_end refused) }
 {
-    worlds_line(alloc, bounds, worlds, b" packets seen\n")
+    if refused {
+        add(
+            line,
+            b"; a status that disagrees with its mark isn't looked for\n",
+        )
+    } else {
+        add(line, b"\n")
+    }
 }
 
 /// That all worlds were seen, where packets are bounded in all.
-pub(crate) fn never_line(alloc: Global, bounds: Bounds, worlds: u64) -> Result<Vec<u8>, AllocError>
-    ensures { IfOk result (λ line. line.items ≡ never_line bounds worlds) }
+pub(crate) fn never_line(
+    alloc: Global,
+    bounds: Bounds,
+    worlds: u64,
+    refused: bool,
+) -> Result<Vec<u8>, AllocError>
+    ensures { IfOk result (λ line. line.items ≡ never_line bounds worlds refused) }
 {
-    worlds_line(alloc, bounds, worlds, b" packets in all seen\n")
+    let mut line = Vec::new(alloc);
+    add(&mut line, b"none: all worlds of ")?;
+    add_number(&mut line, u64::from(bounds.threads))?;
+    add(&mut line, b" threads and ")?;
+    add_number(&mut line, bounds.packets as u64)?;
+    add(&mut line, b" packets in all seen, at most ")?;
+    add_number(&mut line, worlds)?;
+    add_end(&mut line, refused)?;
+    Ok(line)
 }
 
 /// That more worlds are left.
@@ -72,8 +88,9 @@ pub(crate) fn fine_line(
     bounds: Bounds,
     worlds: u64,
     events: u64,
+    refused: bool,
 ) -> Result<Vec<u8>, AllocError>
-    ensures { IfOk result (λ line. line.items ≡ fine_line bounds worlds events) }
+    ensures { IfOk result (λ line. line.items ≡ fine_line bounds worlds events refused) }
 {
     let mut line = Vec::new(alloc);
     add(&mut line, b"none in runs of up to ")?;
@@ -82,6 +99,7 @@ pub(crate) fn fine_line(
     add_number(&mut line, bounds.packets as u64)?;
     add(&mut line, b" packets in all: ")?;
     add_number(&mut line, worlds)?;
-    add(&mut line, b" worlds seen, more left\n")?;
+    add(&mut line, b" worlds seen, more left")?;
+    add_end(&mut line, refused)?;
     Ok(line)
 }

@@ -1,7 +1,7 @@
 //! Texts that are read back: whether the run of what one lists ends as its first line tells.
 
-ghost use Rattle.std.specs.Prelude.{◌≤◌, IfOk, IsTrue, length};
-ghost use Rattle.hunt_schedule.specs.Telling.{IsWithin, TellsEnd, TellsItsEnd};
+ghost use Rattle.std.specs.Prelude.{◌≤◌, IfOk, IfSome, IsTrue, length};
+ghost use Rattle.hunt_schedule.specs.Telling.{IsListed, IsWithin, TellsEnd, TellsItsEnd};
 ghost use Rattle.model.specs.declared.limits.TheConstants.{MAX_THREADS};
 
 use crate::headline::headline;
@@ -14,6 +14,27 @@ use interleave_texts::reading::events_of;
 use model::event::Event;
 use std::alloc::{AllocError, Global};
 use tell_audit::ending::ending_of;
+
+/// The threads and the events that a text lists.
+#[derive(Drop)]
+pub(crate) struct Listed {
+    pub(crate) threads: u8,
+    pub(crate) run: Vec<Event>,
+}
+
+/// What a text lists, if it lists a schedule.
+pub(crate) fn read_back(alloc: Global, text: &[u8]) -> Result<Option<Listed>, AllocError>
+    ensures { IfOk result (λ found. IfSome found (IsListed text.now)) }
+{
+    let schedule = match parse_schedule(alloc, text) {
+        Ok(schedule) => schedule,
+        Err(fault) if fault.kind == ScheduleKind::Memory => return Err(AllocError),
+        Err(_fault) => return Ok(None),
+    };
+    let run = events_of(alloc, &schedule.events)?;
+    let threads = schedule.threads;
+    Ok(Some(Listed { threads, run }))
+}
 
 /// Whether a text lists a schedule within the bounds of a hunt, and begins with the line of how its
 /// run ends.
@@ -31,14 +52,28 @@ pub fn tells_its_end(
     requires few { bounds.threads ≤ MAX_THREADS }
     ensures { IfOk result (λ tells. IsTrue tells → TellsItsEnd set.now bounds text.now) }
 {
-    let schedule = match parse_schedule(alloc, text) {
-        Ok(schedule) => schedule,
-        Err(fault) if fault.kind == ScheduleKind::Memory => return Err(AllocError),
-        Err(_fault) => return Ok(false),
-    };
-    let events = events_of(alloc, &schedule.events)?;
-    let run = events.as_slice();
-    if schedule.threads != bounds.threads {
+    match read_back(alloc, text)? {
+        Some(listed) => tells_listed(alloc, set, bounds, &listed, text),
+        None => Ok(false),
+    }
+}
+
+/// Whether what a text lists is within the bounds of a hunt, and the text begins with the line of
+/// how its run ends.
+fn tells_listed(
+    alloc: Global,
+    set: &DriverSet,
+    bounds: Bounds,
+    listed: &Listed,
+    text: &[u8],
+) -> Result<bool, AllocError>
+    requires some { 1 ≤ bounds.threads }
+    requires few { bounds.threads ≤ MAX_THREADS }
+    ensures { IfOk result (λ tells. IsTrue tells → IsListed text.now listed.now
+        → TellsItsEnd set.now bounds text.now) }
+{
+    let run = listed.run.as_slice();
+    if listed.threads != bounds.threads {
         return Ok(false);
     }
     if !is_within(bounds.events, run) {

@@ -14,7 +14,7 @@ returns c =
       c.as_slice.ensures.value,
       c.in_ok-add.ensures,
     )
-    (four c.args.line.now.items (codes "stuck: nothing that follows comes to rest")
+    (four c.args.line.now.items (codes "not at rest")
     (each_between (codes "; thread ") c.args.standing.now.threads.items (codes " is busy"))
     (each_between (codes "; packet ") c.args.standing.now.packets.items (codes " is live"))
     (each_between (codes "; device ") c.args.standing.now.devices.items

@@ -1,30 +1,18 @@
-use Rattle.std.proofs.Common.{◌≡◌, ◌∙◌, IsTrue, List, length, rules, subst, sym}
+use Rattle.std.proofs.Common.{IfSome, IsTrue, Option, subst}
 use Rattle.std.proofs.lemmas.Result.{IfOk-weaker}
-use Rattle.hunt_schedule.specs.Telling.{IsWithin, TellsEnd, TellsItsEnd}
-use Rattle.model.specs.declared.event.Event.{Event}
+use Rattle.hunt_schedule.specs.declared.reading.Listed.{Listed}
+use Rattle.hunt_schedule.specs.Telling.{IsListed, TellsItsEnd}
 use Rattle.hunt_schedule.proofs.reading.tells_its_end.Goals as goal
 
-pub returns : goal.returns
-returns c =
+pub returns-in-Some : goal.returns-in-Some
+returns-in-Some c =
     let set = c.args.set.now in
     let bounds = c.args.bounds in
     let text = c.args.text.now in
-    let before = c.in-Some.before.now in
-    let last = c.in-Some.last.now in
-    let same : c.as_slice-run.result.now ≡ c.in-Ok.schedule.events =
-    c.as_slice-run.ensures.value ∙ c.in_ok-events.ensures in
-    let within : IsWithin bounds.events (length c.as_slice-run.result.now) =
-    c.is_within.ensures (search rules) in
-    IfOk-weaker c.tells_end.result (λ tells. IsTrue tells → TellsEnd set bounds before last text)
-    (λ tells. IsTrue tells → TellsItsEnd set bounds text)
-    (λ tells h told.
-    record {
-      schedule = c.in-Ok.schedule;
-      lists = c.in-Ok.ensures.listed;
-      threads = search rules;
-      before = before;
-      last = last;
-      events = sym same ∙ c.in-Some.ensures.cases.0;
-      within = subst (λ (events : List Event). IsWithin bounds.events (length events)) same within;
-      tells = h told;
-    }) c.tells_end.ensures
+    let its : IsListed text c.in-Some.listed =
+    subst (λ (found : Option Listed). IfSome found (IsListed text)) c.in-Some.is
+    c.in_ok-listed.ensures in
+    IfOk-weaker c.tells_listed.result
+    (λ tells. IsTrue tells → IsListed text c.in-Some.listed → TellsItsEnd set bounds text)
+    (λ tells. IsTrue tells → TellsItsEnd set bounds text) (λ tells h told. h told its)
+    c.tells_listed.ensures

@@ -1,0 +1,21 @@
+use Rattle.std.proofs.Common.{codes, decimal}
+use Rattle.hunt_schedule.proofs.Pieces.{seven}
+use Rattle.hunt_schedule.specs.Lines.{line_end}
+use Rattle.hunt_schedule.proofs.lines.never_line.Goals as goal
+
+pub returns : goal.returns
+returns c =
+    rw (
+      c.in_ok-add_end.ensures,
+      c.in_ok-add_number-3.ensures,
+      c.in_ok-add-3.ensures,
+      c.in_ok-add_number-2.ensures,
+      c.in_ok-add-2.ensures,
+      c.in_ok-add_number.ensures,
+      c.from.ensures,
+      c.in_ok-add.ensures,
+      c.new-line.ensures.items,
+    )
+    (seven (codes "none: all worlds of ") (decimal c.args.bounds.threads) (codes " threads and ")
+    (decimal c.args.bounds.packets) (codes " packets in all seen, at most ")
+    (decimal c.args.worlds) (line_end c.args.refused))
