@@ -329,7 +329,13 @@ impl Drawing {
                 self.settle(seen.machine, n)?;
             }
             Reply::Topped { packet, .. } => self.end(packet)?,
-            _ => {
+            Reply::Stepped
+            | Reply::Finished
+            | Reply::Waited
+            | Reply::Idle
+            | Reply::Refused
+            | Reply::Bug(_)
+            | Reply::Wrong(_) => {
                 if let Some(
                     Acting {
                         packet: Some(n),

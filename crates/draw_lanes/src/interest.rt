@@ -23,7 +23,12 @@ pub fn is_of_interest(
             Some(acting) => is_step_of_interest(moment, acting, top),
             None => true,
         },
-        _ => true,
+        Reply::Started(_)
+        | Reply::Finished
+        | Reply::Topped { .. }
+        | Reply::Refused
+        | Reply::Bug(_)
+        | Reply::Wrong(_) => true,
     }
 }
 
@@ -42,10 +47,10 @@ fn is_step_of_interest(moment: &Moment, acting: Acting, top: Option<FrameView>) 
 
 /// Whether the step of an instruction is drawn.
 fn is_instruction_of_interest(instr: &Instr, moment: &Moment) -> bool {
-    match instr {
-        Instr::IfCancel(_, _) => is_cancelled(moment),
-        _ => !is_computing_at(instr),
+    if matches!(instr, Instr::IfCancel(_, _)) {
+        return is_cancelled(moment);
     }
+    !is_computing_at(instr)
 }
 
 /// Whether Irp->Cancel of the packet is set that the step is about.

@@ -2,10 +2,9 @@
 
 use checked::Checked;
 use model::event::{Lock, OfDevice};
-use model::instr::{Instr, SpinLock};
 use model::view::FrameView;
 use std::alloc::{AllocError, Global};
-use tell_names::{Book, add_number};
+use tell_names::{Book, add_number, lock_named};
 use tell_uses::acting::Acting;
 use words::Words;
 
@@ -81,23 +80,6 @@ pub fn lock_of(acting: &Acting) -> Option<Lock> {
             None => None,
         },
     }
-}
-
-/// The lock that an instruction of a routine acquires or releases, if it does.
-fn lock_named(instr: &Instr, device: u8) -> Option<Lock> {
-    match *instr {
-        Instr::Acquire(lock) | Instr::Release(lock) => Some(spin(device, lock)),
-        Instr::AcquireCancel | Instr::ReleaseCancel => Some(Lock::SystemCancel),
-        _ => None,
-    }
-}
-
-/// A spin lock of a device.
-fn spin(device: u8, lock: SpinLock) -> Lock {
-    Lock::Spin(OfDevice {
-        device,
-        number: lock.index().min(255) as u8,
-    })
 }
 
 /// Whether a thread owns a lock.

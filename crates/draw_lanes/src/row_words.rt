@@ -15,21 +15,28 @@ use words::Words;
 pub fn add_place(words: &mut Words, book: &Book<'_>, seen: Seen<'_>) {
     match seen.moment.acting {
         Some(acting) => book.add_spot(words, acting.frame),
-        None => match (seen.event, seen.top) {
-            (
-                Event::Issue { .. } | Event::Dpc { .. } | Event::StartIo { .. },
-                Some(
-                    FrameView::Routine {
-                        driver,
-                        routine,
-                        ..
-                    },
-                ),
-            ) => book.add_routine(words, driver, routine),
-            (Event::Cancel { .. }, _) => words.add("IoCancelIrp"),
-            (Event::Interrupt { .. }, _) => words.add("interrupt"),
-            _ => {}
+        None => match *seen.event {
+            Event::Issue { .. } | Event::Dpc { .. } | Event::StartIo { .. } => {
+                add_begun(words, book, seen.top)
+            }
+            Event::Cancel { .. } => words.add("IoCancelIrp"),
+            Event::Interrupt { .. } => words.add("interrupt"),
+            Event::Step { .. } => {}
         },
+    }
+}
+
+/// Adds the routine that has begun on the top of a thread.
+fn add_begun(words: &mut Words, book: &Book<'_>, top: Option<FrameView>) {
+    if let Some(
+        FrameView::Routine {
+            driver,
+            routine,
+            ..
+        },
+    ) = top
+    {
+        book.add_routine(words, driver, routine)
     }
 }
 
@@ -45,7 +52,7 @@ pub fn add_words(words: &mut Words, book: &Book<'_>, seen: Seen<'_>) {
         Reply::Wrong(_) => words.add("stopped: "),
         Reply::Refused => words.add("refused: "),
         Reply::Stepped | Reply::Finished => words.add(before_returned(moment.acting)),
-        _ => {}
+        Reply::Started(_) | Reply::Topped { .. } | Reply::Waited | Reply::Idle => {}
     }
     add_change(words, book, seen.event, moment, seen.reply, seen.machine);
     if let (Reply::Stepped, Some(acting)) = (*seen.reply, moment.acting) {
@@ -77,17 +84,18 @@ pub fn changed_words(alloc: Global, book: &Book<'_>, seen: Seen<'_>) -> Result<S
 
 /// What stands before the words for what a routine returns, where a step is that of its `ret`.
 fn before_returned(acting: Option<Acting>) -> &'static str {
-    match acting {
-        Some(
-            Acting {
-                instruction: Some(Instr::Ret(form)),
-                ..
-            },
-        ) => match form {
-            Return::Void => "returns",
-            _ => "returns: ",
+    let Some(
+        Acting {
+            instruction: Some(Instr::Ret(form)),
+            ..
         },
-        _ => "",
+    ) = acting
+    else {
+        return "";
+    };
+    match form {
+        Return::Void => "returns",
+        Return::WithStatus(_) | Return::Lower(_) | Return::Continue | Return::Stop => "returns: ",
     }
 }
 
@@ -113,10 +121,13 @@ fn add_called(words: &mut Words, book: &Book<'_>, acting: Acting, top: Option<Fr
 /// How a step calls a routine, if it does where one stands on top after it.
 fn how_called(acting: Acting) -> Option<&'static str> {
     match acting.frame {
-        FrameView::Routine { .. } => match acting.instruction {
-            Some(Instr::Pass(_) | Instr::Call(_, _)) => Some("; calls "),
-            _ => None,
-        },
+        FrameView::Routine { .. } => {
+            if matches!(acting.instruction, Some(Instr::Pass(_) | Instr::Call(_, _))) {
+                Some("; calls ")
+            } else {
+                None
+            }
+        }
         FrameView::Walk(_) => Some("; calls "),
         FrameView::Cancel(_) => Some(": "),
     }

@@ -39,12 +39,12 @@ impl<'a> Seen<'a> {
 
 /// The packet that an event is about, if it is one of a frame.
 pub fn packet_of(seen: Seen<'_>) -> Option<u64> {
-    match *seen.reply {
-        Reply::Topped { packet, .. } => Some(packet),
-        _ => match seen.moment.acting {
-            Some(acting) => acting.packet,
-            None => None,
-        },
+    if let Reply::Topped { packet, .. } = *seen.reply {
+        return Some(packet);
+    }
+    match seen.moment.acting {
+        Some(acting) => acting.packet,
+        None => None,
     }
 }
 

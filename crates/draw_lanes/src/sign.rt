@@ -63,7 +63,9 @@ fn sign_of_begin(event: &Event) -> Sign {
     match event {
         Event::Cancel { .. } => Sign::Cancel,
         Event::Interrupt { .. } => Sign::Interrupt,
-        _ => Sign::Acts,
+        Event::Issue { .. } | Event::Dpc { .. } | Event::StartIo { .. } | Event::Step { .. } => {
+            Sign::Acts
+        }
     }
 }
 
@@ -71,10 +73,10 @@ fn sign_of_begin(event: &Event) -> Sign {
 fn sign_of_step(acting: Acting, packet: Option<PacketView>) -> Sign {
     match acting.frame {
         FrameView::Walk(_) => Sign::Acts,
-        FrameView::Cancel(canceller) => match (canceller.next, packet) {
-            (CancelStep::Acquire, _) => Sign::Acquire,
-            (CancelStep::SetFlag, Some(PacketView::Live(_))) => Sign::Flag,
-            _ => Sign::Cancel,
+        FrameView::Cancel(canceller) => match canceller.next {
+            CancelStep::Acquire => Sign::Acquire,
+            CancelStep::SetFlag if matches!(packet, Some(PacketView::Live(_))) => Sign::Flag,
+            CancelStep::SetFlag | CancelStep::Exchange => Sign::Cancel,
         },
         FrameView::Routine { .. } => match acting.instruction {
             Some(instr) => sign_of_instruction(&instr, is_armed(packet)),
@@ -100,6 +102,35 @@ fn sign_of_instruction(instr: &Instr, armed: bool) -> Sign {
         Instr::Disarm(_, _) if armed => Sign::Disarm,
         Instr::Acquire(_) | Instr::AcquireCancel => Sign::Acquire,
         Instr::Release(_) | Instr::ReleaseCancel => Sign::Release,
-        _ => Sign::Acts,
+        Instr::Const(_, _)
+        | Instr::Move(_, _)
+        | Instr::Clear(_)
+        | Instr::Add(_, _)
+        | Instr::Subtract(_, _)
+        | Instr::JumpIfZero(_, _)
+        | Instr::JumpIfLess(_, _, _)
+        | Instr::Jump(_)
+        | Instr::Loop(_)
+        | Instr::End
+        | Instr::Load(_, _)
+        | Instr::Store(_, _)
+        | Instr::LoadPaged(_, _)
+        | Instr::StorePaged(_, _)
+        | Instr::Get(_, _, _)
+        | Instr::Put(_, _)
+        | Instr::Insert(_, _)
+        | Instr::Remove(_, _, _)
+        | Instr::Unlink(_, _)
+        | Instr::Disarm(_, _)
+        | Instr::IfCancel(_, _)
+        | Instr::Start(_)
+        | Instr::Take(_, _)
+        | Instr::Begin(_)
+        | Instr::Next
+        | Instr::Dequeue(_)
+        | Instr::Pass(_)
+        | Instr::Call(_, _)
+        | Instr::IfPending(_, _)
+        | Instr::Ret(_) => Sign::Acts,
     }
 }

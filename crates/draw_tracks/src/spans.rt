@@ -172,6 +172,8 @@ fn is_same(before: FrameView, after: FrameView) -> bool {
         ) => driver == other_driver && routine == other_routine && device == other_device,
         (FrameView::Walk(packet), FrameView::Walk(other)) => packet == other,
         (FrameView::Cancel(cancel), FrameView::Cancel(other)) => cancel.packet == other.packet,
-        _ => false,
+        (FrameView::Routine { .. }, FrameView::Walk(_) | FrameView::Cancel(_))
+        | (FrameView::Walk(_), FrameView::Routine { .. } | FrameView::Cancel(_))
+        | (FrameView::Cancel(_), FrameView::Routine { .. } | FrameView::Walk(_)) => false,
     }
 }

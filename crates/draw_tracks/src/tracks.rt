@@ -81,9 +81,10 @@ impl Tracks {
         let acts = self.top_span(seen);
         self.add_instant(book, seen, at)?;
         self.follow_thread(book, seen, behind)?;
-        match *seen.reply {
-            Reply::Started(_) => self.flow(seen, self.top_span(seen), behind)?,
-            _ => self.flow(seen, acts, at)?,
+        if matches!(seen.reply, Reply::Started(_)) {
+            self.flow(seen, self.top_span(seen), behind)?;
+        } else {
+            self.flow(seen, acts, at)?;
         }
         self.count_live(seen, behind)?;
         self.events = behind;
@@ -194,10 +195,18 @@ impl Tracks {
 
     /// Counts the packets that live, where an event issues one or one tops out.
     fn count_live(&mut self, seen: Seen<'_>, at: u64) -> Result<(), AllocError> {
-        self.live = match (seen.event, seen.reply) {
-            (Event::Issue { .. }, Reply::Started(_)) => self.live.saturating_add(1),
-            (_, Reply::Topped { .. }) => self.live.saturating_sub(1),
-            _ => return Ok(()),
+        let issues = matches!(seen.event, Event::Issue { .. });
+        self.live = match *seen.reply {
+            Reply::Started(_) if issues => self.live.saturating_add(1),
+            Reply::Topped { .. } => self.live.saturating_sub(1),
+            Reply::Started(_)
+            | Reply::Stepped
+            | Reply::Finished
+            | Reply::Waited
+            | Reply::Idle
+            | Reply::Refused
+            | Reply::Bug(_)
+            | Reply::Wrong(_) => return Ok(()),
         };
         self.marks.add(Mark {
             kind: Kind::Counts(self.live),
@@ -257,10 +266,10 @@ fn track_for(event: &Event) -> u64 {
 
 /// The packet that an event is about: that which it issues, or that of a frame.
 fn packet_about(seen: Seen<'_>) -> Option<u64> {
-    match *seen.reply {
-        Reply::Started(packet) => Some(packet),
-        _ => packet_of(seen),
+    if let Reply::Started(packet) = *seen.reply {
+        return Some(packet);
     }
+    packet_of(seen)
 }
 
 /// The device whose lists an event may change.
@@ -271,10 +280,10 @@ fn device_of(seen: Seen<'_>) -> Option<u8> {
             FrameView::Walk(_) | FrameView::Cancel(_) => None,
         };
     }
-    match *seen.event {
-        Event::StartIo { device, .. } => Some(device),
-        _ => None,
+    if let Event::StartIo { device, .. } = *seen.event {
+        return Some(device);
     }
+    None
 }
 
 /// What an instant is called, by the sign of its event.

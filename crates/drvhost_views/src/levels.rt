@@ -29,7 +29,13 @@ fn is_incidental(happened: &Happened) -> bool
     match happened.reply {
         Reply::Idle => true,
         Reply::Stepped => only_computes(&happened.moment.acting),
-        _ => false,
+        Reply::Started(_)
+        | Reply::Finished
+        | Reply::Topped { .. }
+        | Reply::Waited
+        | Reply::Refused
+        | Reply::Bug(_)
+        | Reply::Wrong(_) => false,
     }
 }
 

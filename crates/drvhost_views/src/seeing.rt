@@ -153,6 +153,17 @@ fn is_passed(detail: Detail, step: UseStep, reply: &Reply) -> bool
     let opens = matches!(step, UseStep::Issue(_) | UseStep::Call(_));
     match (detail, reply) {
         (Detail::Quiet, Reply::Stepped) => !opens,
-        _ => false,
+        (
+            Detail::Quiet,
+            Reply::Started(_)
+            | Reply::Finished
+            | Reply::Topped { .. }
+            | Reply::Waited
+            | Reply::Idle
+            | Reply::Refused
+            | Reply::Bug(_)
+            | Reply::Wrong(_),
+        )
+        | (Detail::Usual | Detail::Every, _) => false,
     }
 }

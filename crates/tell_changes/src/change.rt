@@ -3,8 +3,8 @@
 use crate::moment::Moment;
 use crate::refusal::refusal_words;
 use checked::Checked;
-use model::event::{Event, Lock, OfDevice, Reply};
-use model::instr::{Instr, Register, Return};
+use model::event::{Event, Lock, Reply};
+use model::instr::{Cell, Instr, Register, Return};
 use model::set::{QueueName, Sort};
 use model::status::Status;
 use model::view::{FrameView, LiveView, PacketView};
@@ -12,8 +12,8 @@ use model::world::{Activation, CancelStep, Canceller};
 use tell_audit::ring::{sought_by, waits_for};
 use tell_names::{
     Book, CellKind, add_alone, add_bug, add_got, add_loaded, add_lock, add_number, add_packet,
-    add_stored, add_top_out, add_value, add_wrong, major_name, status_name, top_activation,
-    value_at,
+    add_stored, add_top_out, add_value, add_wrong, lock_named, major_name, status_name,
+    top_activation, value_at,
 };
 use tell_uses::standing::{thread_of, top_frame};
 use words::Words;
@@ -74,17 +74,18 @@ fn idle_words(event: &Event) -> &'static str {
         Event::Interrupt { .. } => "the DPC is queued already",
         Event::Dpc { .. } => "no DPC is queued",
         Event::StartIo { .. } => "the start list is empty",
-        _ => "the thread has no frame",
+        Event::Issue { .. } | Event::Cancel { .. } | Event::Step { .. } => {
+            "the thread has no frame"
+        }
     }
 }
 
 /// Adds why an event was refused, and what follows for later ones where that changes their numbers.
 fn add_refusal(words: &mut Words, event: &Event, moment: &Moment) {
     words.add(refusal_words(moment));
-    words.add(match event {
-        Event::Issue { .. } => "; packets issued later have lower numbers than were counted",
-        _ => "",
-    })
+    if matches!(event, Event::Issue { .. }) {
+        words.add("; packets issued later have lower numbers than were counted")
+    }
 }
 
 /// Adds what is wrong with the instruction that stopped a run.
@@ -113,7 +114,8 @@ fn add_start(words: &mut Words, book: &Book<'_>, event: &Event, packet: u64) {
             book.add_device(words, device)
         }
         Event::Cancel { .. } => add_packet(words, packet, ": IoCancelIrp begins"),
-        _ => add_packet(words, packet, ": taken off the start list, StartIo begins"),
+        Event::StartIo { .. } | Event::Dpc { .. } | Event::Interrupt { .. } | Event::Step { .. } =>
+            { add_packet(words, packet, ": taken off the start list, StartIo begins") }
     }
 }
 
@@ -203,7 +205,7 @@ fn add_outside(words: &mut Words, book: &Book<'_>, event: &Event) {
         Event::Cancel { packet, .. } => {
             add_packet(words, packet, ": has topped out, nothing to cancel")
         }
-        _ => {}
+        Event::Issue { .. } | Event::StartIo { .. } | Event::Step { .. } => {}
     }
 }
 
@@ -230,7 +232,7 @@ fn add_carried(words: &mut Words, before: &LiveView, after: &LiveView) {
 fn live_before(moment: &Moment) -> Option<LiveView> {
     match moment.packet {
         Some(PacketView::Live(before)) => Some(before),
-        _ => None,
+        Some(PacketView::Never | PacketView::Topped) | None => None,
     }
 }
 
@@ -246,7 +248,9 @@ fn mark_at(packet: &LiveView, depth: u8) -> bool {
 fn add_cancelling(words: &mut Words, canceller: Canceller, scene: &Scene<'_>) {
     match canceller.next {
         CancelStep::Acquire => words.add("owns the system cancel spin lock"),
-        _ => add_packet(words, canceller.packet, cancelled_of(canceller, scene)),
+        CancelStep::SetFlag | CancelStep::Exchange => {
+            add_packet(words, canceller.packet, cancelled_of(canceller, scene))
+        }
     }
 }
 
@@ -255,16 +259,18 @@ fn cancelled_of(canceller: Canceller, scene: &Scene<'_>) -> &'static str {
     let Canceller { packet: n, next } = canceller;
     let machine = scene.machine;
     let released = matches!(machine.shared().owner(Lock::SystemCancel), Some(None));
+    if released && matches!(machine.packet(n), PacketView::Topped) {
+        return ": has topped out; the system cancel spin lock is free";
+    }
     match next {
-        _ if released && matches!(machine.packet(n), PacketView::Topped) => {
-            ": has topped out; the system cancel spin lock is free"
-        }
         CancelStep::SetFlag => match live_before(scene.moment) {
             Some(LiveView { cancel: true, .. }) => ": Irp->Cancel is set already",
             _ => ": Irp->Cancel is set",
         },
-        _ if released => ": no cancel routine was set; the system cancel spin lock is free",
-        _ => ": its cancel routine is called",
+        CancelStep::Acquire | CancelStep::Exchange if released => {
+            ": no cancel routine was set; the system cancel spin lock is free"
+        }
+        CancelStep::Acquire | CancelStep::Exchange => ": its cancel routine is called",
     }
 }
 
@@ -276,17 +282,14 @@ fn activation_after<'a>(scene: &Scene<'a>) -> Option<&'a Activation> {
 /// Adds what an instruction did that is about a packet.
 fn add_about(words: &mut Words, book: &Book<'_>, scene: &Scene<'_>, n: u64, executed: Executed) {
     let instr = executed.instr;
-    match instr {
-        Instr::Get(r, _, field) => {
-            if let Some(after) = activation_after(scene) {
-                add_got(words, r, n, field, after)
-            }
+    if let Instr::Get(r, _, field) = instr {
+        if let Some(after) = activation_after(scene) {
+            add_got(words, r, n, field, after)
         }
-        _ => {
-            add_packet(words, n, ": ");
-            add_done(words, book, scene, n, executed)
-        }
+        return;
     }
+    add_packet(words, n, ": ");
+    add_done(words, book, scene, n, executed)
 }
 
 /// Adds what an instruction did with a packet.
@@ -294,24 +297,57 @@ fn add_done(words: &mut Words, book: &Book<'_>, scene: &Scene<'_>, n: u64, execu
     let instr = executed.instr;
     match instr {
         Instr::Put(_, r) => add_put(words, scene, r),
-        Instr::Arm(_, queue) => {
-            words.add("the cancel routine is set of queue ");
-            book.add_queue(words, executed.driver, queue);
-            let name = QueueName::Declared(queue);
-            words.add(set_before(scene.moment, executed.device, name))
+        Instr::Mark(_) => words.add(marked_of(live_before(scene.moment))),
+        Instr::Insert(_, queue) => add_inserted(words, book, executed, queue),
+        Instr::Remove(_, queue, _) | Instr::Unlink(_, queue) => {
+            add_off(words, book, scene, executed, QueueName::Declared(queue))
         }
-        Instr::Pass(_) | Instr::Call(_, _) => {
-            add_sent(words, book, scene.machine, executed.device, n)
-        }
-        Instr::Complete(_, status) => {
-            words.add("IoCompleteRequest is called with ");
-            words.add(status_name(status))
-        }
-        Instr::Mark(_) | Instr::Disarm(_, _) | Instr::IfCancel(_, _) | Instr::IfPending(_, _) => {
-            words.add(found_of(scene, n, instr))
-        }
-        _ => add_moved(words, book, scene, n, executed),
+        Instr::Dequeue(_) => add_off(words, book, scene, executed, QueueName::DeviceQueue),
+        Instr::Arm(_, queue) => add_armed(words, book, scene, executed, queue),
+        Instr::Disarm(_, _) => words.add(disarming_of(live_before(scene.moment))),
+        Instr::IfCancel(_, _) => words.add(cancelled_before(live_before(scene.moment))),
+        Instr::Start(_) => add_started(words, scene, executed),
+        Instr::Take(_, _) => words.add("taken out of the current slot"),
+        Instr::Begin(_) => words.add(begun_of(scene.moment)),
+        Instr::Next => add_next(words, scene, n),
+        Instr::Pass(_) | Instr::Call(_, _) => add_sent(words, book, scene, executed.device, n),
+        Instr::Complete(_, status) => add_completed(words, status),
+        Instr::IfPending(_, _) => words.add(pending_of(scene, n)),
+        Instr::Const(_, _)
+        | Instr::Move(_, _)
+        | Instr::Clear(_)
+        | Instr::Add(_, _)
+        | Instr::Subtract(_, _)
+        | Instr::JumpIfZero(_, _)
+        | Instr::JumpIfLess(_, _, _)
+        | Instr::Jump(_)
+        | Instr::Loop(_)
+        | Instr::End
+        | Instr::Load(_, _)
+        | Instr::Store(_, _)
+        | Instr::LoadPaged(_, _)
+        | Instr::StorePaged(_, _)
+        | Instr::Get(_, _, _)
+        | Instr::Acquire(_)
+        | Instr::Release(_)
+        | Instr::AcquireCancel
+        | Instr::ReleaseCancel
+        | Instr::Ret(_) => {}
     }
+}
+
+/// Adds that the cancel routine of a queue was set.
+fn add_armed(words: &mut Words, book: &Book<'_>, scene: &Scene<'_>, executed: Executed, queue: u8) {
+    words.add("the cancel routine is set of queue ");
+    book.add_queue(words, executed.driver, queue);
+    let name = QueueName::Declared(queue);
+    words.add(set_before(scene.moment, executed.device, name))
+}
+
+/// Adds with which status a packet was completed.
+fn add_completed(words: &mut Words, status: Status) {
+    words.add("IoCompleteRequest is called with ");
+    words.add(status_name(status))
 }
 
 /// Adds the information that a packet has got from a register.
@@ -322,17 +358,19 @@ fn add_put(words: &mut Words, scene: &Scene<'_>, r: Register) {
     }
 }
 
-/// What an instruction found of a packet that marks it or jumps by it.
-fn found_of(scene: &Scene<'_>, n: u64, instr: Instr) -> &'static str {
-    match (instr, live_before(scene.moment)) {
-        (Instr::Mark(_), before) => marked_of(before),
-        (Instr::Disarm(_, _), Some(LiveView { armer: Some(_), .. })) => {
-            "its cancel routine is set no more"
-        }
-        (Instr::Disarm(_, _), _) => "no cancel routine was set",
-        (Instr::IfCancel(_, _), Some(LiveView { cancel: true, .. })) => "Irp->Cancel is set",
-        (Instr::IfCancel(_, _), _) => "Irp->Cancel isn't set",
-        _ => pending_of(scene, n),
+/// What became of the cancel routine of a packet, by how it was before.
+fn disarming_of(before: Option<LiveView>) -> &'static str {
+    match before {
+        Some(LiveView { armer: Some(_), .. }) => "its cancel routine is set no more",
+        _ => "no cancel routine was set",
+    }
+}
+
+/// Whether Irp->Cancel of a packet was set.
+fn cancelled_before(before: Option<LiveView>) -> &'static str {
+    match before {
+        Some(LiveView { cancel: true, .. }) => "Irp->Cancel is set",
+        _ => "Irp->Cancel isn't set",
     }
 }
 
@@ -372,36 +410,38 @@ fn set_before(moment: &Moment, device: u8, queue: QueueName) -> &'static str {
     }
 }
 
-/// Adds what list or slot a packet was put into or taken off.
-fn add_moved(words: &mut Words, book: &Book<'_>, scene: &Scene<'_>, n: u64, executed: Executed) {
-    let found = scene.moment.found == Some(true);
-    let instr = executed.instr;
-    match instr {
-        Instr::Insert(_, queue) => {
-            words.add("put into queue ");
-            book.add_queue(words, executed.driver, queue)
-        }
-        Instr::Remove(_, _, _) | Instr::Unlink(_, _) | Instr::Dequeue(_) => {
-            add_off(words, book, scene.machine, found, executed)
-        }
-        Instr::Start(_) if found => add_waiting(words, scene, executed),
-        Instr::Next => {
-            words.add("goes from the device queue to the start list");
-            words.add(disarmed_of(scene, n))
-        }
-        _ => words.add(slot_words(instr, found)),
+/// Adds into which queue a packet was put.
+fn add_inserted(words: &mut Words, book: &Book<'_>, executed: Executed, queue: u8) {
+    words.add("put into queue ");
+    book.add_queue(words, executed.driver, queue)
+}
+
+/// Adds where a packet is that was to be started: it waits where the device was busy.
+fn add_started(words: &mut Words, scene: &Scene<'_>, executed: Executed) {
+    if was_found(scene.moment) {
+        return add_waiting(words, scene, executed);
+    }
+    words.add("put into the start list")
+}
+
+/// Adds that the next packet is to be started.
+fn add_next(words: &mut Words, scene: &Scene<'_>, n: u64) {
+    words.add("goes from the device queue to the start list");
+    words.add(disarmed_of(scene, n))
+}
+
+/// What became of the current slot into which a packet was put.
+fn begun_of(moment: &Moment) -> &'static str {
+    if was_found(moment) {
+        "is in the current slot already"
+    } else {
+        "put into the current slot"
     }
 }
 
-/// What became of the start list or the current slot, by whether the packet was in it already.
-fn slot_words(instr: Instr, found: bool) -> &'static str {
-    match instr {
-        Instr::Take(_, _) => "taken out of the current slot",
-        Instr::Begin(_) if found => "is in the current slot already",
-        Instr::Begin(_) => "put into the current slot",
-        Instr::Start(_) => "put into the start list",
-        _ => "",
-    }
+/// Whether a step found what it looked for.
+fn was_found(moment: &Moment) -> bool {
+    moment.found == Some(true)
 }
 
 /// Adds that a packet waits in the device queue, and how its cancel routine was set.
@@ -416,38 +456,52 @@ fn add_waiting(words: &mut Words, scene: &Scene<'_>, executed: Executed) {
 
 /// That the cancel routine of a packet is set no more, if it was.
 fn disarmed_of(scene: &Scene<'_>, n: u64) -> &'static str {
-    match (live_before(scene.moment), scene.machine.packet(n)) {
-        (Some(LiveView { armer: Some(_), .. }), PacketView::Live(LiveView { armer: None, .. })) =>
-            "; its cancel routine is set no more",
-        _ => "",
+    let was_set = matches!(
+        live_before(scene.moment),
+        Some(LiveView { armer: Some(_), .. })
+    );
+    let is_set_no_more = matches!(
+        scene.machine.packet(n),
+        PacketView::Live(LiveView { armer: None, .. })
+    );
+    if was_set && is_set_no_more {
+        "; its cancel routine is set no more"
+    } else {
+        ""
     }
 }
 
-/// Adds that a packet was taken off the list of an instruction, or that it wasn't found there.
-fn add_off(words: &mut Words, book: &Book<'_>, machine: &Checked, found: bool, executed: Executed) {
+/// Adds that a packet was taken off a list of the device, or that it wasn't found there.
+fn add_off(
+    words: &mut Words,
+    book: &Book<'_>,
+    scene: &Scene<'_>,
+    executed: Executed,
+    list: QueueName,
+) {
+    let found = was_found(scene.moment);
     words.add(if found { "taken off " } else { "isn't in " });
-    let instr = executed.instr;
-    match instr {
-        Instr::Remove(_, queue, _) | Instr::Unlink(_, queue) => {
+    match list {
+        QueueName::Declared(queue) => {
             words.add("queue ");
             book.add_queue(words, executed.driver, queue)
         }
-        _ => words.add("the device queue"),
+        QueueName::DeviceQueue => words.add("the device queue"),
     }
-    let sort = machine.set().sort(executed.driver, executed.routine);
+    let sort = scene.machine.set().sort(executed.driver, executed.routine);
     if !found && matches!(sort, Sort::Cancel) {
         words.add("; the cancel routine has it")
     }
 }
 
 /// Adds to where a packet was sent down.
-fn add_sent(words: &mut Words, book: &Book<'_>, machine: &Checked, device: u8, n: u64) {
+fn add_sent(words: &mut Words, book: &Book<'_>, scene: &Scene<'_>, device: u8, n: u64) {
     words.add("sent down");
-    if let Some(lower) = machine.set().lower(device) {
+    if let Some(lower) = scene.machine.set().lower(device) {
         words.add(" to ");
         book.add_device(words, lower);
     }
-    if let PacketView::Live(after) = machine.packet(n) {
+    if let PacketView::Live(after) = scene.machine.packet(n) {
         words.add(", location ");
         add_number(words, u64::from(after.depth))
     }
@@ -457,43 +511,80 @@ fn add_sent(words: &mut Words, book: &Book<'_>, machine: &Checked, device: u8, n
 fn add_other(words: &mut Words, book: &Book<'_>, scene: &Scene<'_>, executed: Executed) {
     let instr = executed.instr;
     match instr {
-        Instr::Acquire(_) | Instr::AcquireCancel => {
-            if let Some(thread) = thread_of(scene.event) {
-                add_ownership(words, book, thread, lock_of(executed))
-            }
-        }
-        Instr::Release(_) | Instr::ReleaseCancel => {
-            add_lock(words, book, lock_of(executed));
-            words.add(" is free")
-        }
-        Instr::Remove(_, queue, _) => {
-            words.add("queue ");
-            book.add_queue(words, executed.driver, queue);
-            words.add(" is empty")
-        }
+        Instr::Const(_, _)
+        | Instr::Move(_, _)
+        | Instr::Clear(_)
+        | Instr::Add(_, _)
+        | Instr::Subtract(_, _)
+        | Instr::JumpIfZero(_, _)
+        | Instr::JumpIfLess(_, _, _)
+        | Instr::Jump(_)
+        | Instr::Loop(_)
+        | Instr::End => add_own(words, book, scene),
+        Instr::Load(r, cell) => add_load(words, book, scene, r, CellKind::Plain, cell),
+        Instr::LoadPaged(r, cell) => add_load(words, book, scene, r, CellKind::Paged, cell),
+        Instr::Store(cell, r) => add_store(words, book, scene, r, CellKind::Plain, cell),
+        Instr::StorePaged(cell, r) => add_store(words, book, scene, r, CellKind::Paged, cell),
+        Instr::Acquire(_) | Instr::AcquireCancel => add_acquired(words, book, scene, executed),
+        Instr::Release(_) | Instr::ReleaseCancel => add_released(words, book, executed),
+        Instr::Remove(_, queue, _) => add_empty(words, book, executed.driver, queue),
         Instr::Take(_, _) => words.add("the current slot is empty"),
-        Instr::Next => {
-            book.add_device(words, executed.device);
-            words.add(match scene.moment.found {
-                Some(true) => " is idle: no packet waits",
-                _ => " is idle already: no packet waits",
-            })
-        }
+        Instr::Next => add_idle(words, book, scene.moment, executed.device),
         Instr::Ret(form) => add_return(words, form, scene.moment.returned),
-        _ => add_numbers(words, book, scene, instr),
+        Instr::Get(_, _, _)
+        | Instr::Put(_, _)
+        | Instr::Mark(_)
+        | Instr::Insert(_, _)
+        | Instr::Unlink(_, _)
+        | Instr::Arm(_, _)
+        | Instr::Disarm(_, _)
+        | Instr::IfCancel(_, _)
+        | Instr::Start(_)
+        | Instr::Begin(_)
+        | Instr::Dequeue(_)
+        | Instr::Pass(_)
+        | Instr::Call(_, _)
+        | Instr::Complete(_, _)
+        | Instr::IfPending(_, _) => {}
     }
 }
 
-/// The lock that an instruction names: a spin lock of its device, else the system cancel spin lock.
-fn lock_of(executed: Executed) -> Lock {
-    let instr = executed.instr;
-    match instr {
-        Instr::Acquire(lock) | Instr::Release(lock) => Lock::Spin(OfDevice {
-            device: executed.device,
-            number: lock.index().min(255) as u8,
-        }),
-        _ => Lock::SystemCancel,
+/// Adds that a thread owns the lock that an instruction acquires.
+fn add_acquired(words: &mut Words, book: &Book<'_>, scene: &Scene<'_>, executed: Executed) {
+    if let (Some(thread), Some(lock)) = (thread_of(scene.event), lock_of(executed)) {
+        add_ownership(words, book, thread, lock)
     }
+}
+
+/// Adds that the lock is free that an instruction releases.
+fn add_released(words: &mut Words, book: &Book<'_>, executed: Executed) {
+    if let Some(lock) = lock_of(executed) {
+        add_lock(words, book, lock);
+        words.add(" is free")
+    }
+}
+
+/// The lock that an instruction acquires or releases, if it does.
+fn lock_of(executed: Executed) -> Option<Lock> {
+    let instr = executed.instr;
+    lock_named(&instr, executed.device)
+}
+
+/// Adds that a queue had no packet.
+fn add_empty(words: &mut Words, book: &Book<'_>, driver: u8, queue: u8) {
+    words.add("queue ");
+    book.add_queue(words, driver, queue);
+    words.add(" is empty")
+}
+
+/// Adds that no packet waited in the device queue, by whether the device was busy.
+fn add_idle(words: &mut Words, book: &Book<'_>, moment: &Moment, device: u8) {
+    book.add_device(words, device);
+    words.add(if was_found(moment) {
+        " is idle: no packet waits"
+    } else {
+        " is idle already: no packet waits"
+    })
 }
 
 /// Adds what a routine returned: what a lower driver returned, where it returns that.
@@ -512,20 +603,37 @@ fn add_return(words: &mut Words, form: Return, returned: Option<Status>) {
     }
 }
 
-/// Adds what registers and cells have become, and whether a routine jumps.
-fn add_numbers(words: &mut Words, book: &Book<'_>, scene: &Scene<'_>, instr: Instr) {
-    let (Some(acting), Some(thread), Some(after)) = (
-        scene.moment.acting,
-        thread_of(scene.event),
-        activation_after(scene),
-    ) else {
-        return;
-    };
-    match instr {
-        Instr::Load(r, cell) => add_loaded(words, book, r, CellKind::Plain, cell, after),
-        Instr::LoadPaged(r, cell) => add_loaded(words, book, r, CellKind::Paged, cell, after),
-        Instr::Store(cell, r) => add_stored(words, book, CellKind::Plain, cell, r, after),
-        Instr::StorePaged(cell, r) => add_stored(words, book, CellKind::Paged, cell, r, after),
-        _ => add_alone(words, book, thread, acting.frame, scene.machine),
+/// Adds what a step did to its own routine: to registers, or where it goes on.
+fn add_own(words: &mut Words, book: &Book<'_>, scene: &Scene<'_>) {
+    if let (Some(acting), Some(thread)) = (scene.moment.acting, thread_of(scene.event)) {
+        add_alone(words, book, thread, acting.frame, scene.machine)
+    }
+}
+
+/// Adds the number that a register got from a cell.
+fn add_load(
+    words: &mut Words,
+    book: &Book<'_>,
+    scene: &Scene<'_>,
+    r: Register,
+    kind: CellKind,
+    cell: Cell,
+) {
+    if let Some(after) = activation_after(scene) {
+        add_loaded(words, book, r, kind, cell, after)
+    }
+}
+
+/// Adds the number that a cell got from a register.
+fn add_store(
+    words: &mut Words,
+    book: &Book<'_>,
+    scene: &Scene<'_>,
+    r: Register,
+    kind: CellKind,
+    cell: Cell,
+) {
+    if let Some(after) = activation_after(scene) {
+        add_stored(words, book, kind, cell, r, after)
     }
 }

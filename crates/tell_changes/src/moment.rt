@@ -121,19 +121,48 @@ fn found_before(machine: &Checked, acting: &Acting) -> Option<bool> {
     let Some(instr) = instruction else {
         return None;
     };
+    is_found(machine, device, instr, acting.packet)
+}
+
+/// Whether an instruction finds what it looks for, by the packet that it is about.
+fn is_found(machine: &Checked, device: u8, instr: Instr, packet: Option<u64>) -> Option<bool> {
     let shared = machine.shared();
     match instr {
-        Instr::Remove(_, _, _) => Some(acting.packet.is_some()),
-        Instr::Unlink(_, queue) => {
-            let n = acting.packet?;
-            Some(shared.queue(device, queue)?.has(n))
-        }
-        Instr::Dequeue(_) => {
-            let n = acting.packet?;
-            Some(shared.start_of(device)?.waiting().has(n))
-        }
-        Instr::Begin(_) => Some(shared.start_of(device)?.current() == acting.packet),
+        Instr::Remove(_, _, _) => Some(packet.is_some()),
+        Instr::Unlink(_, queue) => Some(shared.queue(device, queue)?.has(packet?)),
+        Instr::Dequeue(_) => Some(shared.start_of(device)?.waiting().has(packet?)),
+        Instr::Begin(_) => Some(shared.start_of(device)?.current() == packet),
         Instr::Start(_) | Instr::Next => Some(shared.start_of(device)?.is_busy()),
-        _ => None,
+        Instr::Const(_, _)
+        | Instr::Move(_, _)
+        | Instr::Clear(_)
+        | Instr::Add(_, _)
+        | Instr::Subtract(_, _)
+        | Instr::JumpIfZero(_, _)
+        | Instr::JumpIfLess(_, _, _)
+        | Instr::Jump(_)
+        | Instr::Loop(_)
+        | Instr::End
+        | Instr::Load(_, _)
+        | Instr::Store(_, _)
+        | Instr::LoadPaged(_, _)
+        | Instr::StorePaged(_, _)
+        | Instr::Get(_, _, _)
+        | Instr::Put(_, _)
+        | Instr::Mark(_)
+        | Instr::Acquire(_)
+        | Instr::Release(_)
+        | Instr::AcquireCancel
+        | Instr::ReleaseCancel
+        | Instr::Insert(_, _)
+        | Instr::Arm(_, _)
+        | Instr::Disarm(_, _)
+        | Instr::IfCancel(_, _)
+        | Instr::Take(_, _)
+        | Instr::Pass(_)
+        | Instr::Call(_, _)
+        | Instr::Complete(_, _)
+        | Instr::IfPending(_, _)
+        | Instr::Ret(_) => None,
     }
 }

@@ -11,14 +11,17 @@ pub fn refusal_words(moment: &Moment) -> &'static str {
     if let Some(reason) = moment.reason {
         return reason_words(reason);
     }
-    match moment.acting {
-        Some(
-            Acting {
-                instruction: Some(Instr::Insert(_, _) | Instr::Start(_) | Instr::Next),
-                ..
-            },
-        ) => "the list is full",
-        _ => "the thread's stack is full",
+    let into_list = matches!(
+        moment.acting,
+        Some(Acting {
+            instruction: Some(Instr::Insert(_, _) | Instr::Start(_) | Instr::Next),
+            ..
+        })
+    );
+    if into_list {
+        "the list is full"
+    } else {
+        "the thread's stack is full"
     }
 }
 

@@ -83,8 +83,7 @@ impl<'a> Telling<'a> {
         let step = use_step_of(machine, event, &moment.acting);
         let reply = machine.apply(event);
         self.ledger.note(self.alloc, step, event, &reply, machine)?;
-        let changed = changed_words(self.alloc, &self.book, event, &moment, &reply, machine)?;
-        let around = circumstances(self.alloc, &self.book, event, &moment, changed)?;
+        let around = circumstances(self.alloc, &self.book, event, &moment, &reply, machine)?;
         self.lines.add(&ToldEvent {
             number: self.number,
             reply,
@@ -94,6 +93,29 @@ impl<'a> Telling<'a> {
         self.refused |= is_refused(&reply);
         Ok(reply)
     }
+}
+
+/// The circumstances of an event, by the moment before it, and what it changed.
+fn circumstances(
+    alloc: Global,
+    book: &Book<'_>,
+    event: &Event,
+    moment: &Moment,
+    reply: &Reply,
+    machine: &Checked,
+) -> Result<Circumstances, AllocError> {
+    let routine = acting_routine(alloc, book, moment)?;
+    let changed = changed_words(alloc, book, event, moment, reply, machine)?;
+    let thread = match thread_of(event) {
+        Some(thread) => Some(thread as u64),
+        None => None,
+    };
+    Ok(Circumstances {
+        thread,
+        routine,
+        line: acting_line(book, moment),
+        changed,
+    })
 }
 
 /// What an event changed, by the moment before it.
@@ -110,36 +132,27 @@ fn changed_words(
     words.finish()
 }
 
-/// The circumstances of an event, by the moment before it.
-fn circumstances(
+/// The name of the routine that acts, or what the I/O manager does, if either does something.
+fn acting_routine(
     alloc: Global,
     book: &Book<'_>,
-    event: &Event,
     moment: &Moment,
-    changed: String,
-) -> Result<Circumstances, AllocError> {
-    let thread = match thread_of(event) {
-        Some(thread) => Some(thread as u64),
-        None => None,
-    };
+) -> Result<Option<String>, AllocError> {
     let Some(acting) = &moment.acting else {
-        return Ok(Circumstances {
-            thread,
-            routine: None,
-            line: None,
-            changed,
-        });
+        return Ok(None);
     };
-    let line = match book.line_at(acting.frame) {
-        Some(place) => Some(place.number),
-        None => None,
+    Ok(Some(routine_of(alloc, book, acting.frame)?))
+}
+
+/// The number of the line of the instruction that acts, if one does.
+fn acting_line(book: &Book<'_>, moment: &Moment) -> Option<u64> {
+    let Some(acting) = &moment.acting else {
+        return None;
     };
-    Ok(Circumstances {
-        thread,
-        routine: Some(routine_of(alloc, book, acting.frame)?),
-        line,
-        changed,
-    })
+    let Some(place) = book.line_at(acting.frame) else {
+        return None;
+    };
+    Some(place.number)
 }
 
 /// The name of the routine that acts, or what the I/O manager does.

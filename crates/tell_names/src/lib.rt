@@ -4,12 +4,14 @@
 
 mod blanks;
 mod book;
+mod locks;
 mod named;
 mod values;
 mod wrong;
 
 pub use blanks::{blank, blanks_before_change, blanks_behind};
 pub use book::{Book, Place};
+pub use locks::lock_named;
 pub use named::{
     CellKind, add_bug, add_cell, add_lock, add_number, add_packet, add_top_out, add_value,
     major_name, register_name, status_name,

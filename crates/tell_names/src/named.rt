@@ -48,7 +48,9 @@ fn cause_of(check: BugCheck, subject: Subject) -> &'static str {
         (BugCheck::IrqlNotLessOrEqual, Subject::Cell(_)) => {
             "a paged cell is touched at DISPATCH_LEVEL"
         }
-        (BugCheck::IrqlNotLessOrEqual, _) => "a packet is touched that has topped out",
+        (BugCheck::IrqlNotLessOrEqual, Subject::Packet(_) | Subject::Lock(_)) => {
+            "a packet is touched that has topped out"
+        }
         (BugCheck::SpinLockAlreadyOwned, _) => "the thread owns the lock already",
         (BugCheck::SpinLockNotOwned, _) => "the thread doesn't own the lock that it releases",
         (BugCheck::NoMoreIrpStackLocations, _) => "no stack location is left for the device below",

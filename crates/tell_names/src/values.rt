@@ -56,24 +56,76 @@ fn add_own(
         Instr::Const(r, _) | Instr::Move(r, _) | Instr::Clear(r) => add_register(words, r, after),
         Instr::Add(r, s) => add_computed(words, r, Sign::Plus, s, after),
         Instr::Subtract(r, s) => add_computed(words, r, Sign::Minus, s, after),
-        Instr::JumpIfZero(r, label) => {
-            add_looked_at(words, r, after);
-            add_jump(words, book, after, number_at(r, after) == 0, label)
-        }
-        Instr::JumpIfLess(r, s, label) => {
-            add_looked_at(words, r, after);
-            words.add(", ");
-            add_looked_at(words, s, after);
-            let jumps = number_at(r, after) < number_at(s, after);
-            add_jump(words, book, after, jumps, label)
-        }
+        Instr::JumpIfZero(r, label) => add_jump_if_zero(words, book, r, label, after),
+        Instr::JumpIfLess(r, s, label) => add_jump_if_less(words, book, r, s, label, after),
         Instr::Loop(turns) => add_turn(words, 1, turns.count()),
-        Instr::End if after.position == position.saturating_add(1) => {
-            words.add("leaves the loop")
-        }
-        Instr::End => add_round(words, machine, after),
-        _ => {}
+        Instr::End => add_end(words, machine, position, after),
+        Instr::Jump(_)
+        | Instr::Load(_, _)
+        | Instr::Store(_, _)
+        | Instr::LoadPaged(_, _)
+        | Instr::StorePaged(_, _)
+        | Instr::Get(_, _, _)
+        | Instr::Put(_, _)
+        | Instr::Mark(_)
+        | Instr::Acquire(_)
+        | Instr::Release(_)
+        | Instr::AcquireCancel
+        | Instr::ReleaseCancel
+        | Instr::Insert(_, _)
+        | Instr::Remove(_, _, _)
+        | Instr::Unlink(_, _)
+        | Instr::Arm(_, _)
+        | Instr::Disarm(_, _)
+        | Instr::IfCancel(_, _)
+        | Instr::Start(_)
+        | Instr::Take(_, _)
+        | Instr::Begin(_)
+        | Instr::Next
+        | Instr::Dequeue(_)
+        | Instr::Pass(_)
+        | Instr::Call(_, _)
+        | Instr::Complete(_, _)
+        | Instr::IfPending(_, _)
+        | Instr::Ret(_) => {}
     }
+}
+
+/// Adds what the register has that was looked at, and whether the routine jumps, as it is 0.
+fn add_jump_if_zero(
+    words: &mut Words,
+    book: &Book<'_>,
+    r: Register,
+    label: u16,
+    after: &Activation,
+) {
+    add_looked_at(words, r, after);
+    add_jump(words, book, after, number_at(r, after) == 0, label)
+}
+
+/// Adds what the registers have that were looked at, and whether the routine jumps, as the first is
+/// less.
+fn add_jump_if_less(
+    words: &mut Words,
+    book: &Book<'_>,
+    r: Register,
+    s: Register,
+    label: u16,
+    after: &Activation,
+) {
+    add_looked_at(words, r, after);
+    words.add(", ");
+    add_looked_at(words, s, after);
+    let jumps = number_at(r, after) < number_at(s, after);
+    add_jump(words, book, after, jumps, label)
+}
+
+/// Adds where a routine goes on behind the body of a loop that ends at a position.
+fn add_end(words: &mut Words, machine: &Checked, position: u16, after: &Activation) {
+    if after.position == position.saturating_add(1) {
+        return words.add("leaves the loop");
+    }
+    add_round(words, machine, after)
 }
 
 /// The value of a register.
@@ -174,10 +226,10 @@ fn turns_at(machine: &Checked, after: &Activation, position: u16) -> u16 {
 
 /// How many turns a loop has.
 fn turns_of(instr: &Instr) -> u16 {
-    match instr {
-        Instr::Loop(turns) => turns.count(),
-        _ => 0,
+    if let Instr::Loop(turns) = instr {
+        return turns.count();
     }
+    0
 }
 
 /// Adds which turn of how many begins.

@@ -32,49 +32,49 @@ enum Wanted {
     Form(Sort),
 }
 
-/// A register of these two, the first of them that has no number.
-fn unless_numbers(a: &Activation, r: Register, s: Register) -> Wanted {
+/// A number in a register.
+fn number_in_it(r: Register) -> Option<Wanted> {
+    Some(Wanted::Number(r))
+}
+
+/// A number in a register of these two, the first of them that has none.
+fn unless_numbers(a: &Activation, r: Register, s: Register) -> Option<Wanted> {
     match number_in(value_at(r, a)) {
-        None => Wanted::Number(r),
-        Some(_) => Wanted::Number(s),
+        None => Some(Wanted::Number(r)),
+        Some(_) => Some(Wanted::Number(s)),
+    }
+}
+
+/// A number in a register, else a packet in another.
+fn unless_number(a: &Activation, r: Register, packet: Register) -> Option<Wanted> {
+    match number_in(value_at(r, a)) {
+        None => Some(Wanted::Number(r)),
+        Some(_) => Some(Wanted::Packet(packet)),
     }
 }
 
 /// A packet in a register, else what is wanted beside it.
-fn unless_packet(machine: &Checked, a: &Activation, r: Register, other: Wanted) -> Wanted {
+fn unless_packet(machine: &Checked, a: &Activation, r: Register, other: Wanted) -> Option<Wanted> {
     match packet_in(machine, value_at(r, a)) {
-        None => Wanted::Packet(r),
-        Some(_) => other,
+        None => Some(Wanted::Packet(r)),
+        Some(_) => Some(other),
     }
 }
 
 /// What an instruction wants that couldn't be executed, in the order in which it asks for it.
 fn wanted_by(machine: &Checked, a: &Activation, instr: Instr) -> Option<Wanted> {
     match instr {
-        Instr::Add(r, s) | Instr::Subtract(r, s) | Instr::JumpIfLess(r, s, _) => {
-            Some(unless_numbers(a, r, s))
-        }
-        Instr::JumpIfZero(r, _) | Instr::Store(_, r) | Instr::StorePaged(_, r) => {
-            Some(Wanted::Number(r))
-        }
-        Instr::Put(s, r) => match number_in(value_at(r, a)) {
-            None => Some(Wanted::Number(r)),
-            Some(_) => Some(Wanted::Packet(s)),
-        },
-        Instr::Arm(r, queue) => { Some(unless_packet(machine, a, r, Wanted::CancelRoutine(queue))) }
-        Instr::Pass(r) | Instr::Call(r, _) => {
-            Some(unless_packet(machine, a, r, Wanted::LowerDevice))
-        }
+        Instr::Add(r, s) | Instr::Subtract(r, s) => unless_numbers(a, r, s),
+        Instr::JumpIfLess(r, s, _) => unless_numbers(a, r, s),
+        Instr::JumpIfZero(r, _) => number_in_it(r),
+        Instr::Store(_, r) | Instr::StorePaged(_, r) => number_in_it(r),
+        Instr::Put(s, r) => unless_number(a, r, s),
+        Instr::Arm(r, queue) => unless_packet(machine, a, r, Wanted::CancelRoutine(queue)),
+        Instr::Pass(r) => unless_packet(machine, a, r, Wanted::LowerDevice),
+        Instr::Call(r, _) => unless_packet(machine, a, r, Wanted::LowerDevice),
         Instr::Loop(_) => Some(Wanted::RoomForLoop),
         Instr::End => Some(Wanted::OpenLoop),
-        Instr::Ret(form) => Some(wanted_form(machine.set().sort(a.driver, a.routine), form)),
-        _ => Some(Wanted::Packet(packet_operand(instr)?)),
-    }
-}
-
-/// The register that has to have a packet, of an instruction that wants nothing else.
-fn packet_operand(instr: Instr) -> Option<Register> {
-    match instr {
+        Instr::Ret(form) => wanted_form(machine.set().sort(a.driver, a.routine), form),
         Instr::Get(_, r, _)
         | Instr::Mark(r)
         | Instr::Insert(r, _)
@@ -85,17 +85,21 @@ fn packet_operand(instr: Instr) -> Option<Register> {
         | Instr::Begin(r)
         | Instr::Dequeue(r)
         | Instr::Complete(r, _)
-        | Instr::IfPending(r, _) => Some(r),
-        _ => None,
+        | Instr::IfPending(r, _) => Some(Wanted::Packet(r)),
+        Instr::Const(_, _) | Instr::Move(_, _) | Instr::Clear(_) | Instr::Jump(_) => None,
+        Instr::Load(_, _) | Instr::LoadPaged(_, _) => None,
+        Instr::Acquire(_) | Instr::AcquireCancel => None,
+        Instr::Release(_) | Instr::ReleaseCancel => None,
+        Instr::Remove(_, _, _) | Instr::Take(_, _) | Instr::Next => None,
     }
 }
 
 /// What a return wants of a routine of a sort.
-fn wanted_form(sort: Sort, form: Return) -> Wanted {
-    match (sort, form) {
-        (Sort::Dispatch, Return::Lower(r)) => Wanted::Status(r),
-        _ => Wanted::Form(sort),
+fn wanted_form(sort: Sort, form: Return) -> Option<Wanted> {
+    if let (Sort::Dispatch, Return::Lower(r)) = (sort, form) {
+        return Some(Wanted::Status(r));
     }
+    Some(Wanted::Form(sort))
 }
 
 /// Adds what is wrong with an instruction that couldn't be executed, by the machine that it left as

@@ -94,7 +94,13 @@ impl Audited {
                 number,
                 why: refusal_words(&happened.moment),
             })?,
-            _ => {}
+            Reply::Started(_)
+            | Reply::Stepped
+            | Reply::Finished
+            | Reply::Waited
+            | Reply::Idle
+            | Reply::Bug(_)
+            | Reply::Wrong(_) => {}
         }
         Ok(())
     }

@@ -24,7 +24,7 @@ fn acting_device(moment: &Moment) -> Option<u8> {
     };
     match acting.frame {
         FrameView::Routine { device, .. } => Some(device),
-        _ => None,
+        FrameView::Walk(_) | FrameView::Cancel(_) => None,
     }
 }
 
@@ -37,16 +37,24 @@ fn called_place(n: u64, moment: &Moment, machine: &Checked) -> Option<Place> {
             device,
             number: packet.depth,
         }),
-        _ => None,
+        PacketView::Never | PacketView::Topped => None,
     }
+}
+
+/// The location at which an event issued a packet.
+fn issued_place(event: Event) -> Option<Place> {
+    let Event::Issue { device, .. } = event else {
+        return None;
+    };
+    Some(Place { device, number: 1 })
 }
 
 /// The location of which an event opened a use, if it is known.
 pub(crate) fn opened_place(happened: &Happened, machine: &Checked) -> Option<Place> {
-    match (happened.step, happened.event) {
-        (UseStep::Issue(_), Event::Issue { device, .. }) => Some(Place { device, number: 1 }),
-        (UseStep::Call(n), _) => called_place(n, &happened.moment, machine),
-        _ => None,
+    match happened.step {
+        UseStep::Issue(_) => issued_place(happened.event),
+        UseStep::Call(n) => called_place(n, &happened.moment, machine),
+        UseStep::Nothing | UseStep::Mark(_) | UseStep::Leave(_, _) | UseStep::Return(_) => None,
     }
 }
 

@@ -3,8 +3,8 @@
 use crate::columns::add_columns;
 use checked::Checked;
 use model::event::{Event, Reply};
-use model::view::FrameView;
-use model::world::CancelStep;
+use model::view::{FrameView, PacketView};
+use model::world::{CancelStep, Canceller};
 use std::alloc::AllocError;
 use tell_changes::Moment;
 use tell_names::{Book, blank, blanks_before_change};
@@ -34,10 +34,17 @@ pub(crate) fn add_front(
     Ok(())
 }
 
-/// Adds the place of an event, and behind it what the event changed, if these words say anything.
-pub(crate) fn add_rest(words: &mut Words, book: &Book<'_>, happened: &Happened, change: &str) {
+/// Adds the place of an event, and behind it what the event changed, if these words say anything,
+/// by the machine after it.
+pub(crate) fn add_rest(
+    words: &mut Words,
+    book: &Book<'_>,
+    happened: &Happened,
+    machine: &Checked,
+    change: &str,
+) {
     match happened.moment.acting {
-        Some(acting) => add_place(words, book, acting.frame),
+        Some(acting) => add_place(words, book, acting.frame, machine),
         None => words.add("-"),
     }
     if !change.is_empty() {
@@ -48,8 +55,8 @@ pub(crate) fn add_rest(words: &mut Words, book: &Book<'_>, happened: &Happened, 
 }
 
 /// Adds where a frame that acts stands: the routine and the line of its instruction, or what the
-/// I/O manager does.
-pub(crate) fn add_place(words: &mut Words, book: &Book<'_>, frame: FrameView) {
+/// I/O manager does, by the machine after that.
+pub(crate) fn add_place(words: &mut Words, book: &Book<'_>, frame: FrameView, machine: &Checked) {
     match frame {
         FrameView::Routine {
             driver,
@@ -58,15 +65,18 @@ pub(crate) fn add_place(words: &mut Words, book: &Book<'_>, frame: FrameView) {
             device: _,
         } => book.add_place(words, driver, routine, position),
         FrameView::Walk(_) => words.add("IoCompleteRequest"),
-        FrameView::Cancel(canceller) => words.add(step_words(canceller.next)),
+        FrameView::Cancel(canceller) => words.add(step_words(canceller, machine)),
     }
 }
 
-/// What IoCancelIrp does in a step.
-fn step_words(step: CancelStep) -> &'static str {
-    match step {
-        CancelStep::Acquire => "IoCancelIrp: acquires",
-        CancelStep::SetFlag => "IoCancelIrp: sets the flag",
-        CancelStep::Exchange => "IoCancelIrp: takes the routine",
+/// What IoCancelIrp does in a step. Once it owns the system cancel spin lock, it only releases that
+/// if the packet has topped out; no such step makes a packet top out.
+fn step_words(canceller: Canceller, machine: &Checked) -> &'static str {
+    let topped = matches!(machine.packet(canceller.packet), PacketView::Topped);
+    match (canceller.next, topped) {
+        (CancelStep::Acquire, _) => "IoCancelIrp: acquires",
+        (CancelStep::SetFlag | CancelStep::Exchange, true) => "IoCancelIrp: releases",
+        (CancelStep::SetFlag, false) => "IoCancelIrp: sets the flag",
+        (CancelStep::Exchange, false) => "IoCancelIrp: takes the routine",
     }
 }

@@ -39,7 +39,14 @@ impl Standing {
         let waits = match happened.reply {
             Reply::Waited => Some(waits_for(machine, thread)),
             Reply::Finished if returns => None,
-            _ => return None,
+            Reply::Started(_)
+            | Reply::Stepped
+            | Reply::Finished
+            | Reply::Topped { .. }
+            | Reply::Idle
+            | Reply::Refused
+            | Reply::Bug(_)
+            | Reply::Wrong(_) => return None,
         };
         match acting.frame {
             FrameView::Routine {

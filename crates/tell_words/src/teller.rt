@@ -149,7 +149,7 @@ impl<'a> Teller<'a> {
         whole(&self.change)?;
         clear(&mut self.words);
         let change = self.change.text.as_str();
-        add_rest(&mut self.words, &self.book, happened, change);
+        add_rest(&mut self.words, &self.book, happened, machine, change);
         whole(&self.words)
     }
 
@@ -187,7 +187,7 @@ impl<'a> Teller<'a> {
     {
         self.line = self.book.line_at(place);
         let Some(line) = self.line else {
-            return add_place(&mut self.words, &self.book, place);
+            return add_place(&mut self.words, &self.book, place, machine);
         };
         self.words.add(self.book.words_before_change(line));
         let bare = self.words.text.len();
