@@ -2,12 +2,14 @@
 use Rattle.std.specs.Prelude.{ℕ, ◌≡◌, ◌++◌, List, [], ◌∷◌, map, Option, None, Some, slice_get}
 use Rattle.std.specs.Option.{option_and_then}
 use Rattle.model.specs.declared.abs.Refusal.{Refusal}
+use Rattle.model.specs.Set.{Set}
 use Rattle.report_sarif.specs.declared.log.Region.{Region}
 use Rattle.report_sarif.specs.declared.log.Step.{Step}
 use Rattle.verifier_evidence.specs.declared.evidence.Evidence.{Evidence}
 use Rattle.verifier_evidence.specs.declared.evidence.Evidence.TheVariants.{Misplaced, Unreached, NotEntered, Broken, Differing, Unlike, TooLong}
 use Rattle.verifier_evidence.specs.declared.trail.Path.{Path}
 use Rattle.verifier_evidence.specs.declared.trail.Step.{Step as PathStep}
+use Rattle.verifier_evidence.specs.Evidence.{IsEvidence}
 use Rattle.drvhost_evidence.specs.declared.shown.Shown.{Shown}
 use Rattle.drvhost_evidence.specs.Regions.{position_lines, region_at}
 
@@ -71,3 +73,9 @@ pub record IsShownBy (bytes : List ℕ) (refusal : Refusal) (evidence : Option E
     (shown : Shown) : Type 0 where
   pub path : AreStepsOf bytes (refused_lines bytes refusal) shown.path.items (path_of evidence)
   pub other : AreStepsOf bytes (refused_lines bytes refusal) shown.other.items (other_path evidence)
+
+-- it is shown by evidence of it
+abbrev pub IsShown : List ℕ → Set → Refusal → Shown → Type 0
+IsShown bytes set refusal shown =
+    (evidence : Option Evidence) × IsEvidence set refusal evidence
+    × IsShownBy bytes refusal evidence shown

@@ -15,7 +15,7 @@ use verifier_evidence::{Evidence, Subject, evidence_at};
 /// # Errors
 ///
 /// When memory runs out.
-pub fn evidence_of_fault(
+pub(crate) fn evidence_of_fault(
     alloc: Global,
     set: &DriverSet,
     refusal: &Refusal,

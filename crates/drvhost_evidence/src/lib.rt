@@ -2,6 +2,6 @@
 //! it stands, and in words what is known there and why the rule is broken.
 #![tactic(auto)]
 
-pub mod faults;
+mod faults;
 pub mod region;
 pub mod shown;

@@ -2,9 +2,11 @@
 
 ghost use Rattle.std.specs.Prelude.{◌≡◌, All, IfOk, Some, option_map};
 ghost use Rattle.text.specs.Places.{IsIn, numbers};
-ghost use Rattle.drvhost_evidence.specs.Shown.{AreStepsBy, AreStepsOf, IsShownBy, other_path};
-ghost use Rattle.drvhost_evidence.specs.Shown.{path_of, place_by, step_place};
+ghost use Rattle.drvhost_evidence.specs.Faults.{IsFaultOf};
+ghost use Rattle.drvhost_evidence.specs.Shown.{AreStepsBy, AreStepsOf, IsShown, IsShownBy};
+ghost use Rattle.drvhost_evidence.specs.Shown.{other_path, path_of, place_by, step_place};
 
+use crate::faults::evidence_of_fault;
 use crate::region::{position_lines, region_by};
 use driver_set::DriverSet;
 use model::abs::Refusal;
@@ -24,12 +26,27 @@ pub struct Shown {
     pub why: String,
 }
 
-/// Shows a refusal of the set that the bytes of a file are, by its evidence.
+/// Shows a fault of the set that the bytes of a file are, by its evidence.
 ///
 /// # Errors
 ///
 /// When memory runs out.
-pub fn show(
+pub fn show_fault(
+    alloc: Global,
+    origin: Origin<'_>,
+    bytes: &[u8],
+    set: &DriverSet,
+    refusal: &Refusal,
+) -> Result<Shown, AllocError>
+    requires { IsFaultOf set.now refusal.now }
+    ensures { IfOk result (IsShown bytes.now set.now refusal.now) }
+{
+    let evidence = evidence_of_fault(alloc, set, refusal)?;
+    show(alloc, origin, bytes, set, refusal, &evidence)
+}
+
+/// Shows a refusal by its evidence.
+fn show(
     alloc: Global,
     origin: Origin<'_>,
     bytes: &[u8],

@@ -2,18 +2,17 @@
 use Rattle.std.proofs.Common.{◌≡◌, ◌∙◌, ◌+◌, ◌<◌, ◌≤◌, ◌++◌, ℕ, List, [], ◌∷◌, OnOk, Option, Result, Ok, Err, ap, append_assoc, append-nil, length, refl, subst, sym, take}
 use Rattle.std.specs.Prelude.{get_or}
 use Rattle.std.proofs.lemmas.List.{take_all, take_more}
+use Rattle.mend_edits.specs.declared.lines.LineEdit.{LineEdit}
 use Rattle.model.specs.declared.abs.Refusal.{Refusal}
 use Rattle.model.specs.Set.{Set}
 use Rattle.model.specs.Typable.{IsFirstFault}
 use Rattle.report_json.specs.Line.{json_line}
 use Rattle.report_sarif.specs.declared.log.Region.{Region}
-use Rattle.verifier_evidence.specs.declared.evidence.Evidence.{Evidence}
-use Rattle.verifier_evidence.specs.Evidence.{IsEvidence}
 use Rattle.verifier_words.specs.declared.telling.Told.{Told}
 use Rattle.verifier_words.specs.Faults.{AreFaults, refusals}
 use Rattle.drvhost_evidence.specs.declared.shown.Shown.{Shown}
 use Rattle.drvhost_evidence.specs.Regions.{refusal_region}
-use Rattle.drvhost_evidence.specs.Shown.{IsShownBy}
+use Rattle.drvhost_evidence.specs.Shown.{IsShown}
 use Rattle.drvhost_evidence.proofs.EachFault.{past_told, told_at, within_told}
 use Rattle.drvhost_mends.specs.Fix.{IsFix}
 use Rattle.drvhost_devices.specs.declared.extent.Extent.{Extent}
@@ -23,16 +22,34 @@ use Rattle.drvhost_formats.specs.Explain.{AreLinesOf, AreRefusalLines, IsRefusal
 use Rattle.drvhost_formats.specs.Explanation.{Lesson, refusal_explained_json}
 use Rattle.drvhost_formats.specs.Told.{told}
 
+-- the line of a refusal that is shown was added
+pub shown_added : {A E : Type 0} (r : Result A E) (name bytes : List ℕ) (refusal : Refusal)
+    (region : Option Region) (shown : Shown) (lesson : Lesson) (edits : List LineEdit)
+    (old l : List ℕ) → region ≡ refusal_region bytes refusal
+    → OnOk r (l ≡ old ++ json_line (refusal_explained_json name refusal region shown lesson))
+    → lesson.edits ≡ edits → IsFix refusal bytes edits
+    → OnOk r ((its : Lesson) × IsFix refusal bytes its.edits
+    × (l ≡ old ++ json_line (refusal_explained_json name refusal (refusal_region bytes refusal)
+    shown its)))
+shown_added (Ok a) name bytes refusal region shown lesson edits old l placed added are fixed = (
+  lesson,
+  rw are fixed,
+  added
+      ∙ ap (λ place. old ++ json_line (refusal_explained_json name refusal place shown lesson))
+      placed,
+)
+shown_added (Err e) name bytes refusal region shown lesson edits old l placed added are fixed =
+    added
+
 -- the line of a refusal was added
 pub line_added : {A E : Type 0} (r : Result A E) (name bytes : List ℕ) (set : Set)
-    (refusal : Refusal) (evidence : Option Evidence) (region : Option Region) (shown : Shown)
-    (lesson : Lesson) (old l : List ℕ) → IsEvidence set refusal evidence
-    → IsShownBy bytes refusal evidence shown → region ≡ refusal_region bytes refusal
-    → OnOk r (l ≡ old ++ json_line (refusal_explained_json name refusal region shown lesson))
-    → IsFix refusal bytes lesson.edits
+    (refusal : Refusal) (shown : Shown) (old l : List ℕ) → IsShown bytes set refusal shown
+    → OnOk r ((lesson : Lesson) × IsFix refusal bytes lesson.edits
+    × (l ≡ old ++ json_line (refusal_explained_json name refusal (refusal_region bytes refusal)
+    shown lesson)))
     → OnOk r ((line : List ℕ) × IsRefusalLine name bytes set refusal line × (l ≡ old ++ line))
-line_added (Ok a) name bytes set refusal evidence region shown lesson old l shows by_it placed added fixed = (
-  json_line (refusal_explained_json name refusal region shown lesson),
+line_added (Ok a) name bytes set refusal shown old l (evidence, shows, by_it) (lesson, fixed, added) = (
+  json_line (refusal_explained_json name refusal (refusal_region bytes refusal) shown lesson),
   record {
     evidence = evidence;
     shows = shows;
@@ -40,12 +57,11 @@ line_added (Ok a) name bytes set refusal evidence region shown lesson old l show
     by_it = by_it;
     lesson = lesson;
     fixed = fixed;
-    is = ap (λ place. json_line (refusal_explained_json name refusal place shown lesson)) placed;
+    is = refl;
   },
   added,
 )
-line_added (Err e) name bytes set refusal evidence region shown lesson old l shows by_it placed added fixed =
-    added
+line_added (Err e) name bytes set refusal shown old l shows added = added
 
 -- those of a refused set were, by how many are asked for
 pub of_first : {A E : Type 0} (r : Result A E) (extent : Extent) (name bytes : List ℕ) (set : Set)

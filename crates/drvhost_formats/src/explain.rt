@@ -4,12 +4,16 @@ ghost use Rattle.std.specs.Prelude.{◌≡◌, ◌++◌, ◌⊎◌, List, [], �
 ghost use Rattle.mend_offers.specs.Offers.{AreOffersOf};
 ghost use Rattle.model.specs.declared.abs.Refusal.{Refusal as RefusalValue};
 ghost use Rattle.model.specs.Typable.{IsFirstFault, IsTypable, at_start};
+ghost use Rattle.report_json.specs.Line.{json_line};
 ghost use Rattle.verifier_words.specs.Faults.{AreFaults};
 ghost use Rattle.drvhost_sets.specs.Devices.{AnswersOver};
 ghost use Rattle.drvhost_evidence.specs.Faults.{IsFaultOf};
+ghost use Rattle.drvhost_evidence.specs.Regions.{refusal_region};
+ghost use Rattle.drvhost_mends.specs.Fix.{IsFix};
 ghost use Rattle.drvhost_formats.specs.Explain.{AreLinesOf, AreRefusalLines, IsAcceptanceExplained};
 ghost use Rattle.drvhost_formats.specs.Explain.{IsExplainJsonOf, IsExplainedJson};
 ghost use Rattle.drvhost_formats.specs.Explain.{IsRefusalExplained, IsRefusalLine};
+ghost use Rattle.drvhost_formats.specs.Explanation.{Lesson, refusal_explained_json};
 ghost use Rattle.drvhost_formats.specs.Told.{told};
 ghost use Rattle.drvhost_devices.specs.Ready.{CanAnswer};
 
@@ -21,11 +25,10 @@ use crate::outcome::Outcome;
 use drvhost_devices::device::{Sink, Source};
 use drvhost_devices::extent::Extent;
 use drvhost_devices::fault::Fault;
-use drvhost_evidence::faults::evidence_of_fault;
 use drvhost_evidence::region::refusal_region;
-use drvhost_evidence::shown::show;
+use drvhost_evidence::shown::{Shown, show_fault};
 use drvhost_mends::fixing::fix_by;
-use drvhost_sets::advising::{Advisor, why_and_mend};
+use drvhost_sets::advising::{Advised, Advisor, why_and_mend};
 use drvhost_sets::explaining::origin_of;
 use drvhost_sets::showing::Explained;
 use drvhost_sets::taking::Taking;
@@ -212,18 +215,32 @@ fn add_refusal(
         × IsRefusalLine file.entry.name.now file.entry.bytes.now set.now refusal.now line
         × (lines.new ≡ lines.old ++ line)) }
 {
-    let origin = origin_of(file.bytes);
-    let evidence = evidence_of_fault(alloc, set, refusal)?;
-    let shown = show(alloc, origin, file.bytes, set, refusal, &evidence)?;
-    let region = refusal_region(alloc, file.bytes, refusal)?;
+    let shown = show_fault(alloc, origin_of(file.bytes), file.bytes, set, refusal)?;
     let advised = advisor.advised_with(alloc, set, refusal, shown.why.as_str())?;
+    add_shown(alloc, file, refusal, &shown, &advised, lines)
+}
+
+/// Adds the line of a refusal that is shown, with how it is mended.
+fn add_shown(
+    alloc: Global,
+    file: ReadFile<'_>,
+    refusal: &Refusal,
+    shown: &Shown,
+    advised: &Advised,
+    lines: &mut JsonLines,
+) -> Result<(), AllocError>
+    ensures { OnOk result ((lesson : Lesson) × IsFix refusal.now file.entry.bytes.now lesson.edits
+        × (lines.new ≡ lines.old ++ json_line (refusal_explained_json file.entry.name.now
+        refusal.now (refusal_region file.entry.bytes.now refusal.now) shown.now lesson))) }
+{
+    let region = refusal_region(alloc, file.bytes, refusal)?;
     let (why, fix) = why_and_mend(advised.words.as_str());
     let edits = fix_by(alloc, file.bytes, refusal, advised.changes.as_slice())?;
     lines.add(&ExplainedRefusal {
         file: file.name,
         refusal: *refusal,
         region,
-        shown: &shown,
+        shown,
         why,
         fix,
         edits: edits.as_slice(),

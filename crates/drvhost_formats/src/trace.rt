@@ -9,7 +9,7 @@ ghost use Rattle.drvhost_devices.specs.Ready.{CanAnswer};
 ghost use Rattle.drvhost_sets.specs.Chosen.{set_chosen};
 ghost use Rattle.drvhost_sets.specs.Devices.{AnswersOver};
 ghost use Rattle.drvhost_formats.specs.Told.{Tells};
-ghost use Rattle.drvhost_formats.specs.Trace.{IsRunJsonOf, IsTraceJsonOf, ReadsIn};
+ghost use Rattle.drvhost_formats.specs.Trace.{IsRanBy, IsRunJsonOf, IsTraceJsonOf, ReadsIn};
 
 use crate::events::follow;
 use crate::job::{answer, tell_fault};
@@ -130,13 +130,32 @@ fn trace_chosen<P: Source, O: Sink>(
         Ok(schedule) => schedule,
         Err(fault) => return Ok(tell_fault(name, InputFault::Schedule(fault), lines)?),
     };
+    run_chosen(alloc, chosen, &schedule, lines, out)
+}
+
+/// Runs a set by a schedule that was read.
+fn run_chosen<O: Sink>(
+    alloc: Global,
+    chosen: Chosen,
+    schedule: &Schedule,
+    lines: &mut JsonLines,
+    out: &mut O,
+) -> Result<Outcome, Fault>
+    requires limits { IsWithinLimits schedule.now }
+    requires out { CanCount (O.failures out.old) }
+    requires empty { lines.old ≡ [] }
+    ensures tells { Tells (IsRanBy schedule.now (set_chosen chosen)) (O.contents out.old)
+        (O.contents out.new) [] lines.new result }
+    ensures reads { reads_failed result ≡ 0 }
+    ensures writes { O.failures out.new ≡ O.failures out.old + writes_failed result }
+{
     match chosen {
         Chosen::Accepted(accepted) => match World::new(alloc, accepted, schedule.threads) {
-            Ok(mut world) => follow(&mut world, &schedule, lines, out),
+            Ok(mut world) => follow(&mut world, schedule, lines, out),
             Err((_accepted, _refused)) => Err(Fault::Memory),
         },
         Chosen::Any(set) => match Checked::new(alloc, set, schedule.threads) {
-            Ok(mut machine) => follow(&mut machine, &schedule, lines, out),
+            Ok(mut machine) => follow(&mut machine, schedule, lines, out),
             Err((_set, _refused)) => Err(Fault::Memory),
         },
     }

@@ -1,5 +1,5 @@
 -- The results of refusals that are explained, one after another.
-use Rattle.std.proofs.Common.{◌≡◌, ◌∙◌, ◌+◌, ◌<◌, ◌≤◌, ◌++◌, ℕ, List, [], ◌∷◌, IfOk, Option, Result, Ok, Err, ap, get_or, length, refl, string_bytes, subst, sym, take}
+use Rattle.std.proofs.Common.{◌≡◌, ◌∙◌, ◌+◌, ◌<◌, ◌≤◌, ◌++◌, ℕ, List, [], ◌∷◌, IfOk, Result, Ok, Err, ap, get_or, length, refl, string_bytes, subst, sym, take}
 use Rattle.std.proofs.lemmas.List.{take_all, take_more}
 use Rattle.std.specs.Global.{Vec}
 use Rattle.std.specs.List.{AllZip}
@@ -7,12 +7,10 @@ use Rattle.mend_edits.specs.declared.lines.LineEdit.{LineEdit}
 use Rattle.model.specs.declared.abs.Refusal.{Refusal}
 use Rattle.model.specs.Set.{Set}
 use Rattle.report_sarif.specs.declared.log.Finding.{Finding}
-use Rattle.verifier_evidence.specs.declared.evidence.Evidence.{Evidence}
-use Rattle.verifier_evidence.specs.Evidence.{IsEvidence}
 use Rattle.verifier_words.specs.declared.telling.Told.{Told}
 use Rattle.verifier_words.specs.Faults.{AreFaults, refusals}
 use Rattle.drvhost_evidence.specs.declared.shown.Shown.{Shown}
-use Rattle.drvhost_evidence.specs.Shown.{IsShownBy}
+use Rattle.drvhost_evidence.specs.Shown.{IsShown}
 use Rattle.drvhost_evidence.proofs.EachFault.{past_told, told_at, within_told}
 use Rattle.drvhost_mends.specs.Fix.{IsFix}
 use Rattle.drvhost_devices.specs.declared.extent.Extent.{Extent}
@@ -65,16 +63,15 @@ each_explained (Err e) extent name bytes set refusal is shown = tt
 
 -- one of them, by what shows it
 pub shown_explained : {E : Type 0} (r : Result Finding E) (name bytes : List ℕ) (set : Set)
-    (refusal : Refusal) (evidence : Option Evidence) (shown : Shown) (words : List ℕ)
-    (fix : List LineEdit) → IsEvidence set refusal evidence
-    → IsShownBy bytes refusal evidence shown → IsFix refusal bytes fix
+    (refusal : Refusal) (shown : Shown) (words : List ℕ) (fix : List LineEdit)
+    → IsShown bytes set refusal shown → IsFix refusal bytes fix
     → IfOk r (IsRefusal name bytes refusal)
     → IfOk r (λ finding. string_bytes finding.message ≡ refusal_words refusal ++ 10 ∷ words)
     → IfOk r (λ finding. finding.path.items ≡ shown.path.items)
     → IfOk r (λ finding. finding.other.items ≡ shown.other.items)
     → IfOk r (λ finding. finding.fix ≡ fix)
     → IfOk r (IsExplained name bytes set refusal)
-shown_explained (Ok finding) name bytes set refusal evidence shown words fix shows it so is told path other whole =
+shown_explained (Ok finding) name bytes set refusal shown words fix (evidence, shows, it) so is told path other whole =
     record {
       result = is;
       words = words;
@@ -85,5 +82,5 @@ shown_explained (Ok finding) name bytes set refusal evidence shown words fix sho
       other = rw other it.other;
       fixed = rw whole so;
     }
-shown_explained (Err e) name bytes set refusal evidence shown words fix shows it so is told path other whole =
+shown_explained (Err e) name bytes set refusal shown words fix shows so is told path other whole =
     tt

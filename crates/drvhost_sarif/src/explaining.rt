@@ -12,8 +12,7 @@ ghost use Rattle.drvhost_sarif.specs.Found.{AreExplained, IsExplained, IsRefusal
 use crate::finding::{ReadFile, of_refusal};
 use crate::found::only;
 use drvhost_devices::extent::Extent;
-use drvhost_evidence::faults::evidence_of_fault;
-use drvhost_evidence::shown::{Shown, show};
+use drvhost_evidence::shown::{Shown, show_fault};
 use drvhost_mends::fixing::fix_by;
 use drvhost_sets::advising::Advisor;
 use drvhost_sets::explaining::origin_of;
@@ -82,9 +81,7 @@ fn explain(
     ensures { IfOk result
         (IsExplained file.entry.name.now file.entry.bytes.now set.now refusal.now) }
 {
-    let evidence = evidence_of_fault(alloc, set, refusal)?;
-    let origin = origin_of(file.bytes);
-    let shown = show(alloc, origin, file.bytes, set, refusal, &evidence)?;
+    let shown = show_fault(alloc, origin_of(file.bytes), file.bytes, set, refusal)?;
     let advised = advisor.advised_with(alloc, set, refusal, shown.why.as_str())?;
     let fix = fix_by(alloc, file.bytes, refusal, advised.changes.as_slice())?;
     of_shown(

@@ -10,6 +10,7 @@ ghost use Rattle.drvhost_sarif.specs.Found.{IsPassed, IsRefused, IsRefusalFound,
 ghost use Rattle.drvhost_sarif.specs.Found.{IsTextFaultFound, IsVerdictFound, refusal_print};
 ghost use Rattle.drvhost_sarif.specs.Found.{refusal_words};
 
+use crate::copying::Copier;
 use crate::explaining::explained;
 use crate::found::{Found, only};
 use asm::AsmFault;
@@ -84,17 +85,19 @@ fn passed(alloc: Global, passes: Passes, name: &str) -> Result<Found, AllocError
 fn of_pass(alloc: Global, name: &str) -> Result<Finding, AllocError>
     ensures { IfOk result (IsPass name.now) }
 {
-    Ok(Finding {
-        file: String::from_str(alloc, name)?,
+    let mut texts = Copier::new(alloc);
+    let finding = Finding {
+        file: texts.copy(name),
         kind: Kind::Pass,
-        rule: String::from_str(alloc, ACCEPTED)?,
-        message: String::from_str(alloc, "the set is accepted")?,
+        rule: texts.copy(ACCEPTED),
+        message: texts.copy("the set is accepted"),
         region: None,
         path: Vec::new(alloc),
         other: Vec::new(alloc),
         fix: Items::of(Vec::new(alloc)),
-        fingerprint: String::from_str(alloc, ACCEPTED)?,
-    })
+        fingerprint: texts.copy(ACCEPTED),
+    };
+    texts.finish(finding)
 }
 
 /// What is found in a refused set; one that is refused for want of memory is none.
@@ -148,6 +151,41 @@ pub(crate) fn of_refusal(
     ensures { IfOk result
         (IsRefusalFound file.entry.name.now file.entry.bytes.now refusal.now) }
 {
+    let region = refusal_region(alloc, file.bytes, refusal)?;
+    let (word, _name) = words_of(refusal.rule);
+    let mut texts = Copier::new(alloc);
+    let finding = Finding {
+        file: texts.copy(file.name),
+        kind: Kind::Fail,
+        rule: texts.copy(word),
+        message: texts.made(place_words(alloc, refusal)),
+        region,
+        path: Vec::new(alloc),
+        other: Vec::new(alloc),
+        fix: Items::of(Vec::new(alloc)),
+        fingerprint: texts.made(place_print(alloc, refusal)),
+    };
+    texts.finish(finding)
+}
+
+/// The place of a refusal, in words.
+fn place_words(alloc: Global, refusal: &Refusal) -> Result<String, AllocError>
+    ensures { IfOk result (λ words. string_bytes words ≡ refusal_words refusal.now) }
+{
+    let Refusal {
+        driver,
+        routine,
+        at,
+        rule,
+    } = *refusal;
+    let text = rule.as_str();
+    format!(in alloc; "{text}: driver {driver}, routine {routine}, position {at}")
+}
+
+/// The place of a refusal, as a fingerprint.
+fn place_print(alloc: Global, refusal: &Refusal) -> Result<String, AllocError>
+    ensures { IfOk result (λ print. string_bytes print ≡ refusal_print refusal.now) }
+{
     let Refusal {
         driver,
         routine,
@@ -155,18 +193,7 @@ pub(crate) fn of_refusal(
         rule,
     } = *refusal;
     let (word, _name) = words_of(rule);
-    let text = rule.as_str();
-    Ok(Finding {
-        file: String::from_str(alloc, file.name)?,
-        kind: Kind::Fail,
-        rule: String::from_str(alloc, word)?,
-        message: format!(in alloc; "{text}: driver {driver}, routine {routine}, position {at}")?,
-        region: refusal_region(alloc, file.bytes, refusal)?,
-        path: Vec::new(alloc),
-        other: Vec::new(alloc),
-        fix: Items::of(Vec::new(alloc)),
-        fingerprint: format!(in alloc; "{word}/{driver}/{routine}/{at}")?,
-    })
+    format!(in alloc; "{word}/{driver}/{routine}/{at}")
 }
 
 /// The number of a rule, as `V1`, and its name.
@@ -247,15 +274,17 @@ fn of_fault(
 ) -> Result<Finding, AllocError>
     ensures { IfOk result (IsFault name.now kind.now said.now region) }
 {
-    Ok(Finding {
-        file: String::from_str(alloc, name)?,
+    let mut texts = Copier::new(alloc);
+    let finding = Finding {
+        file: texts.copy(name),
         kind: Kind::Fail,
-        rule: String::from_str(alloc, kind)?,
-        message: format!(in alloc; "the file is faulty: {kind}{said}")?,
+        rule: texts.copy(kind),
+        message: texts.made(format!(in alloc; "the file is faulty: {kind}{said}")),
         region,
         path: Vec::new(alloc),
         other: Vec::new(alloc),
         fix: Items::of(Vec::new(alloc)),
-        fingerprint: String::from_str(alloc, kind)?,
-    })
+        fingerprint: texts.copy(kind),
+    };
+    texts.finish(finding)
 }

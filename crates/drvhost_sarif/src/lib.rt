@@ -2,6 +2,7 @@
 //! text of each thing that is wrong.
 #![tactic(auto)]
 
+mod copying;
 mod explaining;
 mod finding;
 mod found;

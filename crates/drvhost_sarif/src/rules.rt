@@ -5,6 +5,7 @@ ghost use Rattle.std.specs.Prelude.{◌≡◌, IfOk, map, string_bytes};
 ghost use Rattle.drvhost_sarif.specs.Log.{IsLogOf, all_entries, entry_of, fault_entry, pass_entry};
 ghost use Rattle.drvhost_sarif.specs.Log.{rule_entry};
 
+use crate::copying::Copier;
 use crate::finding::{ACCEPTED, words_of};
 use model::abs::Rule;
 use report_sarif::log::{Finding, Kind, RuleText, log};
@@ -64,12 +65,14 @@ fn rule_text(alloc: Global, rule: Rule) -> Result<RuleText, AllocError>
     ensures { IfOk result (λ text. entry_of text ≡ rule_entry rule) }
 {
     let (word, name) = words_of(rule);
-    Ok(RuleText {
-        id: String::from_str(alloc, word)?,
-        name: String::from_str(alloc, name)?,
-        page: rule_words(alloc, rule)?,
+    let mut texts = Copier::new(alloc);
+    let text = RuleText {
+        id: texts.copy(word),
+        name: texts.copy(name),
+        page: texts.made(rule_words(alloc, rule)),
         kind: Kind::Fail,
-    })
+    };
+    texts.finish(text)
 }
 
 /// Kinds of faults.
@@ -88,22 +91,26 @@ fn kind_texts(alloc: Global, kinds: &[&str]) -> Result<Vec<RuleText>, AllocError
 fn kind_text(alloc: Global, kind: &str) -> Result<RuleText, AllocError>
     ensures { IfOk result (λ text. entry_of text ≡ fault_entry kind.now) }
 {
-    Ok(RuleText {
-        id: String::from_str(alloc, kind)?,
-        name: String::from_str(alloc, kind)?,
-        page: format!(in alloc; "the file is faulty: {kind}")?,
+    let mut texts = Copier::new(alloc);
+    let text = RuleText {
+        id: texts.copy(kind),
+        name: texts.copy(kind),
+        page: texts.made(format!(in alloc; "the file is faulty: {kind}")),
         kind: Kind::Fail,
-    })
+    };
+    texts.finish(text)
 }
 
 /// That a set is accepted.
 fn pass_text(alloc: Global) -> Result<RuleText, AllocError>
     ensures { IfOk result (λ text. entry_of text ≡ pass_entry) }
 {
-    Ok(RuleText {
-        id: String::from_str(alloc, ACCEPTED)?,
-        name: String::from_str(alloc, ACCEPTED)?,
-        page: String::from_str(alloc, "The set breaks none of the rules.")?,
+    let mut texts = Copier::new(alloc);
+    let text = RuleText {
+        id: texts.copy(ACCEPTED),
+        name: texts.copy(ACCEPTED),
+        page: texts.copy("The set breaks none of the rules."),
         kind: Kind::Pass,
-    })
+    };
+    texts.finish(text)
 }
