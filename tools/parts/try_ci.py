@@ -1,8 +1,8 @@
 #!/usr/bin/env python3
 """tools/try ci [PROGRAM]: runs what stands in examples/ci with the program (crates/drvhost/out/drvhost, if none is named): the
 commands of the jobs for GitHub and GitLab in a folder with an accepted set and in one with a refused set beside it, and the hook
-for git at commits of both, with names that have spaces. It prints each that does otherwise; the last line counts. It needs git
-and, on Debian, `python3-yaml`."""
+for git at commits of both, of what is staged and stands there otherwise by then, with names that have spaces, dashes and more. It
+prints each that does otherwise; the last line counts. It needs git and, on Debian, `python3-yaml`."""
 import json, os, shutil, subprocess, sys, tempfile
 
 import yaml
@@ -36,22 +36,34 @@ def job_faults(lines, folder, path):
         if len(log['runs'][0]['results']) != count:
             yield 'has another log with %s' % name
 
+def commit(folder, path):
+    """Whether git takes a commit, and what was said."""
+    who = ['git', '-c', 'user.name=a', '-c', 'user.email=a@b', 'commit', '-qm', 'one']
+    env = {**os.environ, 'PATH': path + ':' + os.environ['PATH'], 'GIT_CONFIG_GLOBAL': os.devnull}
+    done = subprocess.run(who, cwd=folder, env=env, capture_output=True, text=True)
+    return done.returncode == 0, done.stdout + done.stderr
+
 def hook_faults(folder, path):
-    """What the hook does otherwise."""
+    """What the hook does otherwise: of each file what is staged, and what stands there by then."""
     run(['git', 'init', '-q'], folder, path)
     hook = os.path.join(folder, '.git/hooks/pre-commit')
     shutil.copy(os.path.join(CI, 'pre-commit'), hook)
     os.chmod(hook, 0o755)
-    who = ['git', '-c', 'user.name=a', '-c', 'user.email=a@b']
-    for name, where, is_taken in ('echo.drv', 'a set.drv', True), ('twice.drv', 'two sets.drv', False):
-        put(name, folder, where)
-        run(['git', 'add', where], folder, path)
-        if (run([*who, 'commit', '-qm', 'one'], folder, path) == 0) != is_taken:
-            yield 'takes %s otherwise' % name
-    run(['git', 'rm', '-qf', 'two sets.drv'], folder, path)
+    for staged, later, where, is_taken in (
+            ('echo.drv', 'echo.drv', 'a set.drv', True), ('twice.drv', 'twice.drv', 'two sets.drv', False),
+            ('twice.drv', 'echo.drv', 'mended since.drv', False), ('echo.drv', 'twice.drv', 'broken since.drv', True),
+            ('twice.drv', 'twice.drv', '--pass.drv', False), ('twice.drv', 'twice.drv', 'below/$(id)\n.drv', False)):
+        put(staged, folder, *where.split('/'))
+        run(['git', 'add', '--', where], folder, path)
+        put(later, folder, *where.split('/'))
+        taken, said = commit(folder, path)
+        if taken != is_taken or not (taken or where.split('\n')[0] in said):
+            yield 'takes %r otherwise' % where
+        if not taken:
+            run(['git', 'rm', '-qf', '--cached', '--', where], folder, path)
     open(os.path.join(folder, 'note'), 'w').close()
     run(['git', 'add', 'note'], folder, path)
-    if run([*who, 'commit', '-qm', 'no set'], folder, path) != 0:
+    if not commit(folder, path)[0]:
         yield 'takes no commit without a set'
 
 def main():

@@ -3,11 +3,11 @@
 what is there, and takes it away; makes the packages twice, and compares them. With a root that
 debootstrap has made, it installs the packages there, as root, and purges them.
 
-What wants a program that isn't there (mandoc, fish, zsh, lintian) is told, and left out."""
+What wants a program that isn't there (mandoc, lintian) is told, and left out. What is completed on
+command lines `tools/try completions` tries."""
 import argparse, filecmp, os, shutil, subprocess, sys, tempfile
 
 import packing
-from commands import bare, commands
 from versions import TOP, VERSION
 
 OWN = """
@@ -52,22 +52,6 @@ def try_manuals(prefix):
         done = subprocess.run(["man", "--warnings", "-l", path], capture_output=True, text=True)
         want(not done.stderr, f"{name}: {done.stderr}")
 
-def try_completions(prefix):
-    words = sorted(it.word for it in commands() if it.word.startswith("t"))
-    lines = f"{prefix}/share/bash-completion/completions/drvhost"
-    ask = 'COMP_WORDS=(drvhost %s); COMP_CWORD=%d; _drvhost; printf "%%s\\n" "${COMPREPLY[@]}"'
-    told = answered(["bash", "-c", f". {lines}; " + ask % ("t", 1)])
-    want(sorted(told.split()) == words, f"bash completes otherwise: {told}")
-    flags = sorted(bare(next(it.flags for it in commands() if it.word == "tell")))
-    told = answered(["bash", "-c", f". {lines}; " + ask % ("tell --", 2)])
-    want(sorted(told.split()) == flags, f"bash completes flags otherwise: {told}")
-    lines = f"{prefix}/share/fish/vendor_completions.d/drvhost.fish"
-    told = answered(["fish", "-c", f"source {lines}; complete -C 'drvhost t'"])
-    found = told and sorted(line.split("\t")[0] for line in told.splitlines())
-    want(told is None or found == words, f"fish completes otherwise: {told}")
-    told = answered(["zsh", "-n", f"{prefix}/share/zsh/site-functions/_drvhost"])
-    want(not told, f"zsh: {told}")
-
 def try_compiler(prefix, folder):
     """A host that has names of its own links with either library, in C and in C++."""
     source = os.path.join(folder, "own.c")
@@ -94,7 +78,6 @@ def try_install(given, folder):
     told = answered([f"{prefix}/bin/drvhost", "check", os.path.join(TOP, "examples/echo.drv")])
     want(told == "accepted\ndriver 0 routine 0 dispatch certificate 2", f"drvhost answers {told}")
     try_manuals(prefix)
-    try_completions(prefix)
     try_compiler(prefix, folder)
     want(tool("install", "--prefix", prefix, *given).returncode == 0, "not installed again")
     want(tool("install", "--prefix", prefix, "--uninstall").returncode == 0, "not uninstalled")

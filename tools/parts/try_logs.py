@@ -160,9 +160,28 @@ def faults_in(check, log):
         yield from flow_faults(result)
 
 
+def odd_files(program, folder):
+    """Files whose results have no line: an image that is named as a text, an empty text, an image
+    that ends early."""
+    image = os.path.join(folder, "image.drv")
+    subprocess.run([program, "rewrite", "examples/twice.drv", image], cwd=TOP, check=True)
+    yield image
+    for name, content in ("empty.drv", b""), ("cut.image", b"DRVS"):
+        path = os.path.join(folder, name)
+        with open(path, "wb") as file:
+            file.write(content)
+        yield path
+
+
 def main():
-    program, paths = os.path.abspath(sys.argv[1]), sys.argv[2:]
-    paths = paths or ["examples", "examples/gone.drv"]
+    with tempfile.TemporaryDirectory() as folder:
+        program, paths = os.path.abspath(sys.argv[1]), sys.argv[2:]
+        usual = ["examples", "examples/gone.drv", *odd_files(program, folder)]
+        sys.exit(try_logs(program, paths or usual))
+
+
+def try_logs(program, paths):
+    """Tries logs of paths, and answers whether anything is wrong."""
     check, logs, wrong = validator(), {}, 0
     words = itertools.product(("check", "explain"), ((), ("--pass",), ("--all",)))
     for command, flags in words:
@@ -185,7 +204,7 @@ def main():
     count = sum(len(results_of(log)) for log in logs.values())
     wrong += len(faults)
     print(f"{len(logs)} logs tried, {count} results, {len(fixed)} fixes, {wrong} faults")
-    sys.exit(wrong > 0 or count == 0)
+    return wrong > 0 or count == 0
 
 
 main()
