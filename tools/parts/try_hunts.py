@@ -45,7 +45,7 @@ class Hunt:
 
     def is_stuck(self):
         """Whether a run was found that is stuck."""
-        return self.status == 1 and self.text.startswith('; stuck: ')
+        return self.status == 1 and self.text.startswith('; not at rest; ')
 
     def played(self):
         """What is wrong with the scenario of a find."""

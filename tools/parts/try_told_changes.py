@@ -32,10 +32,14 @@ class Scene:
         self.registers = self.registers_now()
 
     def look(self, frame):
-        self.frame, self.place = frame, 'IoCompleteRequest' if frame.kind == 'walk' else 'IoCancelIrp: ' + frame.kind
+        self.frame, self.place = frame, 'IoCompleteRequest' if frame.kind == 'walk' else 'IoCancelIrp: ' + self.cancelling(frame)
         if frame.kind == 'routine':
             ended = ('',), '%s at %d' % (frame.routine.name, frame.at)
             self.operation, self.place = frame.routine.code[frame.at] if frame.at < len(frame.routine.code) else ended
+
+    def cancelling(self, frame):
+        """What IoCancelIrp does in a step: once it has the lock, of a packet that has topped out only to release it."""
+        return frame.kind if frame.kind == 'acquires' or frame.packet in self.world.packets else 'releases'
 
     def registers_now(self):
         """What stands in the registers of the frame that acts."""
