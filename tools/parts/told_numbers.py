@@ -1,17 +1,22 @@
 #!/usr/bin/env python3
 """tools/keep numbers [--write]: whether the counts that the documents tell are those that the tools count.
 
-Of contracts, definitions, crates, edits, stored runs, wrong drivers and bodies each place is listed in PLACES, by the words round it. It
-tells each that is otherwise, or isn't there once, and ends with status 1 then; with --write it puts the numbers there. What was
-measured on a day, as seconds, is no such count. It tells too which call that may wait docs/PROVED.md doesn't name. The last line
-counts."""
-import glob, os, re, sys
+Of contracts, definitions, crates, edits, stored runs, wrong drivers, bodies and the rules of the model each place is listed in PLACES, by
+the words round it. It tells each that is otherwise, or isn't there once, and ends with status 1 then; with --write it puts the numbers
+there. What was measured on a day, as seconds, is no such count. It tells too which call that may wait docs/PROVED.md doesn't name, where
+a file says another last rule than the model has (`V1 to V20`), and which schema takes other rules. The last line counts."""
+import glob, os, re, subprocess, sys
 
 import count_contracts
 import stored_runs
 from beliefs import CRATES, TESTS, TOP, believed, files_of_specs, listed
 
 GATE, PROVED = 'docs/GATE.md', 'docs/PROVED.md'
+MODEL_RULES = 'crates/model/src/abs.rt'
+# The schemas that name a rule by a pattern, which takes V1 to the last and no other.
+SCHEMAS = 'docs/schemas/verdict.json', 'docs/schemas/explanation.json'
+# What may tell of the last rule.
+TOLD = '.rt', '.md', '.rs', '.py', '.h'
 # A document, the words round a number, where `#` stands for it, and what it counts.
 PLACES = (
     (PROVED, 'Of # functions', 'functions'),
@@ -33,7 +38,20 @@ PLACES = (
     ('docs/GUIDE.md', 'lists # wrong drivers', 'wrong drivers'),
     ('docs/GALLERY.md', 'has # wrong drivers', 'wrong drivers'),
     ('docs/GALLERY.md', 'of the # wrong drivers', 'wrong drivers'),
+    ('crates/pafteis/src/texts.rt', 'in words, by its number, 1 to #.', 'rules'),
+    ('crates/pafteis_values/src/constants.rt', 'by its number, 1 to #, such', 'rules'),
+    ('crates/pafteis_values/src/rule.rt', 'of a number, 1 to #.', 'rules'),
+    ('crates/verifier_names/src/pages.rt', 'RULES: [Rule; #]', 'rules'),
+    ('include/pafteis.h', 'a rule in words, 1 to #.', 'rules'),
+    ('python/pafteis/verdicts.py', 'A rule in words, 1 to # or', 'rules'),
+    ('rust/pafteis/src/words.rs', 'A rule in words, 1 to #;', 'rules'),
 )
+
+def rules():
+    """The number of the model's last rule."""
+    with open(os.path.join(TOP, MODEL_RULES), encoding='utf-8') as file:
+        body = re.search(r'pub enum Rule \{(.*?)\n\}', file.read(), re.DOTALL)[1]
+    return max(int(number) for number in re.findall(r'= (\d+),', body))
 
 def counts():
     """All that is counted, by what it is called."""
@@ -57,6 +75,7 @@ def counts():
         'cases': sum(len(group.cases) for group in groups),
         'runs': sum(len(group.runs) for group in groups),
         'wrong drivers': sum(len(group.cases) for group in groups if group.name == 'gallery'),
+        'rules': rules(),
         'wrong bodies': sum(line.startswith('== ') for path in wrong for line in open(path)),
     }
 
@@ -67,6 +86,24 @@ def unnamed():
     waiting = [(crate, it.name) for crate in listed() if crate not in TESTS
                for it in count_contracts.functions(crate) if it.waits and it.is_shown]
     return ['%s::%s' % one for one in waiting if not re.search(r'`(\w+::)*%s`' % re.escape(one[1]), part)]
+
+def other_last_rules():
+    """Where a file says another last rule than the model has."""
+    files = subprocess.run(['git', 'ls-files', '-z'], cwd=TOP, capture_output=True, check=True).stdout.decode().split('\0')
+    for name in filter(lambda name: name.endswith(TOLD) and os.path.isfile(os.path.join(TOP, name)), files):
+        with open(os.path.join(TOP, name), encoding='utf-8') as file:
+            for number in re.findall(r'\bV1`? to `?V(\d+)', file.read()):
+                if int(number) != rules():
+                    yield name, number
+
+def other_patterns():
+    """The schemas whose pattern of a rule takes another one than the model has, or not each of them."""
+    for name in SCHEMAS:
+        with open(os.path.join(TOP, name), encoding='utf-8') as file:
+            patterns = re.findall(r'"pattern": "(\^V[^"]*)"', file.read())
+        taken = [number for number in range(0, 2 * rules()) for pattern in patterns if re.search(pattern, 'V%d' % number)]
+        if taken != list(range(1, rules() + 1)):
+            yield name
 
 def replaced(text, words, number):
     """The text with the number between the words, which stand there once; None where they don't."""
@@ -93,6 +130,12 @@ def main():
                 file.write(other)
     missing = unnamed()
     print(end=''.join('%s: %s may wait, and is not named\n' % (PROVED, name) for name in missing))
+    for name, number in other_last_rules():
+        wrong += 1
+        print('%s: the last rule is V%d, not V%s' % (name, found['rules'], number))
+    for name in other_patterns():
+        wrong += 1
+        print('%s: its pattern of a rule does not take V1 to V%d, and these alone' % (name, found['rules']))
     print('%d numbers, %d told otherwise' % (len(PLACES), wrong))
     return 1 if wrong or missing else 0
 
