@@ -25,7 +25,7 @@ use Rattle.text.specs.declared.class.TheConstants.{MAX_NAME}
 use Rattle.asm_line.specs.Cursor.{Reading, called, capped, cell, cell_of, constant, constant_of, field, label, lock_of, number, numbered, one, paged_cell, queue, ranged, register, register_of, returned, returned_by, so_far, spin_lock, status, then_read, three, turns, turns_of, two}
 use Rattle.asm_line.specs.Line.{body, if_in_range, line_of, read_line}
 use Rattle.asm_line.specs.Plain.{unnamed}
-use Rattle.asm_line.specs.Usual.{at, same, with_label, with_queue, with_routine, Reads, ReadsStep, Takes, TakesName, TakesStatus}
+use Rattle.asm_line.specs.Usual.{at, same, with_label, with_queue, with_routine, HasOne, HasTwo, Reads, ReadsStep, Takes, TakesName, TakesStatus}
 use Rattle.asm_line.specs.Words.{field_of, field_text, status_of, status_text}
 use Rattle.asm_line.specs.declared.cursor.Cursor.{Cursor}
 use Rattle.asm_line.specs.declared.line.Body.{Body}
@@ -82,6 +82,32 @@ labelled_line {raw} {name} {rest} {after} {step} parts named behind is =
           (is.first, is.plain),
       tokens,
     ) refl
+
+-- a word's operands, and nothing behind them
+pub has_one : {A : Type 0} {read : Cursor → Reading A} {word bytes operands rest : List ℕ} {x : A}
+    → bytes ≡ word ++ operands → Takes read same operands x rest → rest ≡ []
+    → HasOne read word bytes x
+has_one {operands = operands} {rest = rest} parts first done = record {
+  operands = operands;
+  rest = rest;
+  parts = parts;
+  first = first;
+  done = done;
+}
+
+pub has_two : {A B : Type 0} {read : Cursor → Reading A} {next : Cursor → Reading B}
+    {note : UsedNames → UsedNames} {word bytes operands between rest : List ℕ} {x : A} {y : B}
+    → bytes ≡ word ++ operands → Takes read same operands x between
+    → Takes next note between y rest → rest ≡ [] → HasTwo read next note word bytes x y
+has_two {operands = operands} {between = between} {rest = rest} parts first second done = record {
+  operands = operands;
+  between = between;
+  rest = rest;
+  parts = parts;
+  first = first;
+  second = second;
+  done = done;
+}
 
 -- operands of which an instruction is made
 pub one_read : {A : Type 0} (f : A → Instr) {first : Cursor → Reading A} {note : UsedNames → UsedNames}

@@ -47,6 +47,27 @@ pub record TakesName (bytes : List ℕ) (name : List ℕ) (rest : List ℕ) : Ty
 abbrev pub TakesStatus : List ℕ → Status → List ℕ → Type 0
 TakesStatus bytes status rest = bytes ≡ 32 ∷ status_text status ++ rest
 
+-- behind the word stands this operand, and nothing else
+pub record HasOne {A : Type 0} (read : Cursor → Reading A) (word bytes : List ℕ) (operand : A)
+    : Type 0 where
+  pub operands : List ℕ
+  pub rest : List ℕ
+  pub parts : bytes ≡ word ++ operands
+  pub first : Takes read same operands operand rest
+  pub done : rest ≡ []
+
+-- behind the word stand these two operands, of which the second may note a name, and nothing else
+pub record HasTwo {A B : Type 0} (read : Cursor → Reading A) (next : Cursor → Reading B)
+    (note : UsedNames → UsedNames) (word bytes : List ℕ) (operand : A) (other : B)
+    : Type 0 where
+  pub operands : List ℕ
+  pub between : List ℕ
+  pub rest : List ℕ
+  pub parts : bytes ≡ word ++ operands
+  pub first : Takes read same operands operand between
+  pub second : Takes next note between other rest
+  pub done : rest ≡ []
+
 -- the bytes are operands of which the exact reading makes this instruction
 pub record Reads (reading : Cursor → Reading Instr) (bytes : List ℕ) (instr : Instr)
     (used : UsedNames) : Type 0 where

@@ -5,8 +5,8 @@ ghost use Rattle.model.specs.declared.limits.TheConstants.{CELLS, MAX_TURNS, REG
 ghost use Rattle.model.specs.Sound.{FormFits};
 ghost use Rattle.asm_line.specs.Cursor.{called, cell, constant, field, label, paged_cell, queue};
 ghost use Rattle.asm_line.specs.Cursor.{register, returned, spin_lock, turns};
-ghost use Rattle.asm_line.specs.Usual.{same, with_label, with_queue, with_routine, Takes};
-ghost use Rattle.asm_line.specs.Usual.{TakesName, TakesStatus};
+ghost use Rattle.asm_line.specs.Usual.{same, with_label, with_queue, with_routine, HasOne, HasTwo};
+ghost use Rattle.asm_line.specs.Usual.{Takes, TakesName, TakesStatus};
 
 use model::instr::{Cell, Field, Register, Return, SpinLock, Turns};
 use model::status::Status;
@@ -237,4 +237,61 @@ pub fn behind<'a>(bytes: &'a [u8], word: &[u8]) -> Option<Operands<'a>>
     Some(Operands {
         rest: after_word(bytes, word)?,
     })
+}
+
+/// The register behind this word, if nothing else stands there.
+#[inline(always)]
+#[tactic(auto, using(crate::proofs::Plain::has_one))]
+pub fn register_behind(bytes: &[u8], word: &[u8]) -> Option<Register>
+    ensures read { IfSome result (HasOne register word.now bytes.now) }
+    ensures within { IfSome result (λ r. r < REGISTERS) }
+{
+    let mut at = behind(bytes, word)?;
+    let register = at.register()?;
+    at.end()?;
+    Some(register)
+}
+
+/// The two registers behind this word, if nothing else stands there.
+#[inline(always)]
+#[tactic(auto, using(crate::proofs::Plain::has_two))]
+pub fn registers_behind(bytes: &[u8], word: &[u8]) -> Option<(Register, Register)>
+    ensures read { IfSome result (λ two. HasTwo register register same word.now bytes.now two.0 two.1) }
+    ensures within { IfSome result (λ two. (two.0 < REGISTERS) × (two.1 < REGISTERS)) }
+{
+    let mut at = behind(bytes, word)?;
+    let register = at.register()?;
+    let other = at.register()?;
+    at.end()?;
+    Some((register, other))
+}
+
+/// The register and the label behind this word, if nothing else stands there.
+#[inline(always)]
+#[tactic(auto, using(crate::proofs::Plain::has_two))]
+pub fn register_label_behind<'a>(bytes: &'a [u8], word: &[u8]) -> Option<(Register, Piece<'a>)>
+    ensures read { IfSome result (λ two.
+        HasTwo register label (with_label two.1) word.now bytes.now two.0 0) }
+    ensures within { IfSome result (λ two. two.0 < REGISTERS) }
+{
+    let mut at = behind(bytes, word)?;
+    let register = at.register()?;
+    let label = at.label()?;
+    at.end()?;
+    Some((register, label))
+}
+
+/// The register and the queue behind this word, if nothing else stands there.
+#[inline(always)]
+#[tactic(auto, using(crate::proofs::Plain::has_two))]
+pub fn register_queue_behind<'a>(bytes: &'a [u8], word: &[u8]) -> Option<(Register, Piece<'a>)>
+    ensures read { IfSome result (λ two.
+        HasTwo register queue (with_queue two.1) word.now bytes.now two.0 0) }
+    ensures within { IfSome result (λ two. two.0 < REGISTERS) }
+{
+    let mut at = behind(bytes, word)?;
+    let register = at.register()?;
+    let queue = at.queue()?;
+    at.end()?;
+    Some((register, queue))
 }

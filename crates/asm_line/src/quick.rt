@@ -8,7 +8,9 @@ ghost use Rattle.asm_line.specs.Plain.{plain_line, unnamed};
 ghost use Rattle.asm_line.specs.Usual.{with_label, with_queue, with_routine, ReadsStep};
 ghost use Rattle.asm_line.specs.declared.line.Body.TheVariants.{Step};
 
-use crate::operands::behind;
+use crate::operands::{
+    behind, register_behind, register_label_behind, register_queue_behind, registers_behind,
+};
 use crate::{Body, Line, UsedNames};
 use model::instr::{Instr, Return};
 use text::class::is_name;
@@ -117,11 +119,8 @@ fn read_add_or_acquire(bytes: &[u8]) -> Option<Instr>
     ensures read { IfSome result (λ i. ReadsStep bytes.now (Step (Some i) unnamed)) }
     ensures fits { IfSome result (λ i. BodyFits (Step (Some i) unnamed)) }
 {
-    if let Some(mut at) = behind(bytes, b"add") {
-        let register = at.register()?;
-        let other = at.register()?;
-        at.end()?;
-        return Some(Instr::Add(register, other));
+    if let Some(two) = registers_behind(bytes, b"add") {
+        return Some(Instr::Add(two.0, two.1));
     }
     if let Some(mut at) = behind(bytes, b"acquire") {
         let lock = at.spin_lock()?;
@@ -140,9 +139,7 @@ fn read_begin(bytes: &[u8]) -> Option<Instr>
     ensures read { IfSome result (λ i. ReadsStep bytes.now (Step (Some i) unnamed)) }
     ensures fits { IfSome result (λ i. BodyFits (Step (Some i) unnamed)) }
 {
-    if let Some(mut at) = behind(bytes, b"begin") {
-        let register = at.register()?;
-        at.end()?;
+    if let Some(register) = register_behind(bytes, b"begin") {
         return Some(Instr::Begin(register));
     }
     None
@@ -159,9 +156,7 @@ fn read_const_clear_complete_call(bytes: &[u8]) -> Option<Instr>
         at.end()?;
         return Some(Instr::Const(register, constant));
     }
-    if let Some(mut at) = behind(bytes, b"clear") {
-        let register = at.register()?;
-        at.end()?;
+    if let Some(register) = register_behind(bytes, b"clear") {
         return Some(Instr::Clear(register));
     }
     if let Some(mut at) = behind(bytes, b"complete") {
@@ -170,9 +165,7 @@ fn read_const_clear_complete_call(bytes: &[u8]) -> Option<Instr>
         at.end()?;
         return Some(Instr::Complete(register, status));
     }
-    if let Some(mut at) = behind(bytes, b"call") {
-        let register = at.register()?;
-        at.end()?;
+    if let Some(register) = register_behind(bytes, b"call") {
         return Some(Instr::Call(register, None));
     }
     None
@@ -183,9 +176,7 @@ fn read_dequeue(bytes: &[u8]) -> Option<Instr>
     ensures read { IfSome result (λ i. ReadsStep bytes.now (Step (Some i) unnamed)) }
     ensures fits { IfSome result (λ i. BodyFits (Step (Some i) unnamed)) }
 {
-    if let Some(mut at) = behind(bytes, b"dequeue") {
-        let register = at.register()?;
-        at.end()?;
+    if let Some(register) = register_behind(bytes, b"dequeue") {
         return Some(Instr::Dequeue(register));
     }
     None
@@ -248,15 +239,10 @@ fn read_mov_or_mark(bytes: &[u8]) -> Option<Instr>
     ensures read { IfSome result (λ i. ReadsStep bytes.now (Step (Some i) unnamed)) }
     ensures fits { IfSome result (λ i. BodyFits (Step (Some i) unnamed)) }
 {
-    if let Some(mut at) = behind(bytes, b"mov") {
-        let register = at.register()?;
-        let other = at.register()?;
-        at.end()?;
-        return Some(Instr::Move(register, other));
+    if let Some(two) = registers_behind(bytes, b"mov") {
+        return Some(Instr::Move(two.0, two.1));
     }
-    if let Some(mut at) = behind(bytes, b"mark") {
-        let register = at.register()?;
-        at.end()?;
+    if let Some(register) = register_behind(bytes, b"mark") {
         return Some(Instr::Mark(register));
     }
     None
@@ -279,15 +265,10 @@ fn read_put_or_pass(bytes: &[u8]) -> Option<Instr>
     ensures read { IfSome result (λ i. ReadsStep bytes.now (Step (Some i) unnamed)) }
     ensures fits { IfSome result (λ i. BodyFits (Step (Some i) unnamed)) }
 {
-    if let Some(mut at) = behind(bytes, b"put") {
-        let register = at.register()?;
-        let other = at.register()?;
-        at.end()?;
-        return Some(Instr::Put(register, other));
+    if let Some(two) = registers_behind(bytes, b"put") {
+        return Some(Instr::Put(two.0, two.1));
     }
-    if let Some(mut at) = behind(bytes, b"pass") {
-        let register = at.register()?;
-        at.end()?;
+    if let Some(register) = register_behind(bytes, b"pass") {
         return Some(Instr::Pass(register));
     }
     None
@@ -298,9 +279,7 @@ fn read_ret_or_release(bytes: &[u8]) -> Option<Instr>
     ensures read { IfSome result (λ i. ReadsStep bytes.now (Step (Some i) unnamed)) }
     ensures fits { IfSome result (λ i. BodyFits (Step (Some i) unnamed)) }
 {
-    if let Some(mut at) = behind(bytes, b"ret lower") {
-        let register = at.register()?;
-        at.end()?;
+    if let Some(register) = register_behind(bytes, b"ret lower") {
         return Some(Instr::Ret(Return::Lower(register)));
     }
     if let Some(mut at) = behind(bytes, b"ret") {
@@ -331,15 +310,10 @@ fn read_store_sub_or_start(bytes: &[u8]) -> Option<Instr>
         at.end()?;
         return Some(Instr::StorePaged(cell, register));
     }
-    if let Some(mut at) = behind(bytes, b"sub") {
-        let register = at.register()?;
-        let other = at.register()?;
-        at.end()?;
-        return Some(Instr::Subtract(register, other));
+    if let Some(two) = registers_behind(bytes, b"sub") {
+        return Some(Instr::Subtract(two.0, two.1));
     }
-    if let Some(mut at) = behind(bytes, b"start") {
-        let register = at.register()?;
-        at.end()?;
+    if let Some(register) = register_behind(bytes, b"start") {
         return Some(Instr::Start(register));
     }
     if let Some(mut at) = behind(bytes, b"store") {
@@ -356,11 +330,8 @@ fn read_arm<'a>(bytes: &'a [u8]) -> Option<Body<'a>>
     ensures read { IfSome result (ReadsStep bytes.now) }
     ensures fits { IfSome result BodyFits }
 {
-    if let Some(mut at) = behind(bytes, b"arm") {
-        let register = at.register()?;
-        let queue = at.queue()?;
-        at.end()?;
-        return Some(queued(Instr::Arm(register, 0), queue));
+    if let Some(two) = register_queue_behind(bytes, b"arm") {
+        return Some(queued(Instr::Arm(two.0, 0), two.1));
     }
     None
 }
@@ -384,11 +355,8 @@ fn read_disarm<'a>(bytes: &'a [u8]) -> Option<Body<'a>>
     ensures read { IfSome result (ReadsStep bytes.now) }
     ensures fits { IfSome result BodyFits }
 {
-    if let Some(mut at) = behind(bytes, b"disarm") {
-        let register = at.register()?;
-        let label = at.label()?;
-        at.end()?;
-        return Some(jump(Instr::Disarm(register, 0), label));
+    if let Some(two) = register_label_behind(bytes, b"disarm") {
+        return Some(jump(Instr::Disarm(two.0, 0), two.1));
     }
     None
 }
@@ -398,23 +366,14 @@ fn read_insert_or_if<'a>(bytes: &'a [u8]) -> Option<Body<'a>>
     ensures read { IfSome result (ReadsStep bytes.now) }
     ensures fits { IfSome result BodyFits }
 {
-    if let Some(mut at) = behind(bytes, b"insert") {
-        let register = at.register()?;
-        let queue = at.queue()?;
-        at.end()?;
-        return Some(queued(Instr::Insert(register, 0), queue));
+    if let Some(two) = register_queue_behind(bytes, b"insert") {
+        return Some(queued(Instr::Insert(two.0, 0), two.1));
     }
-    if let Some(mut at) = behind(bytes, b"ifcancel") {
-        let register = at.register()?;
-        let label = at.label()?;
-        at.end()?;
-        return Some(jump(Instr::IfCancel(register, 0), label));
+    if let Some(two) = register_label_behind(bytes, b"ifcancel") {
+        return Some(jump(Instr::IfCancel(two.0, 0), two.1));
     }
-    if let Some(mut at) = behind(bytes, b"ifpending") {
-        let register = at.register()?;
-        let label = at.label()?;
-        at.end()?;
-        return Some(jump(Instr::IfPending(register, 0), label));
+    if let Some(two) = register_label_behind(bytes, b"ifpending") {
+        return Some(jump(Instr::IfPending(two.0, 0), two.1));
     }
     None
 }
@@ -424,11 +383,8 @@ fn read_jump<'a>(bytes: &'a [u8]) -> Option<Body<'a>>
     ensures read { IfSome result (ReadsStep bytes.now) }
     ensures fits { IfSome result BodyFits }
 {
-    if let Some(mut at) = behind(bytes, b"jz") {
-        let register = at.register()?;
-        let label = at.label()?;
-        at.end()?;
-        return Some(jump(Instr::JumpIfZero(register, 0), label));
+    if let Some(two) = register_label_behind(bytes, b"jz") {
+        return Some(jump(Instr::JumpIfZero(two.0, 0), two.1));
     }
     if let Some(mut at) = behind(bytes, b"jlt") {
         let register = at.register()?;
@@ -465,11 +421,8 @@ fn read_take<'a>(bytes: &'a [u8]) -> Option<Body<'a>>
     ensures read { IfSome result (ReadsStep bytes.now) }
     ensures fits { IfSome result BodyFits }
 {
-    if let Some(mut at) = behind(bytes, b"take") {
-        let register = at.register()?;
-        let label = at.label()?;
-        at.end()?;
-        return Some(jump(Instr::Take(register, 0), label));
+    if let Some(two) = register_label_behind(bytes, b"take") {
+        return Some(jump(Instr::Take(two.0, 0), two.1));
     }
     None
 }
@@ -479,11 +432,8 @@ fn read_unlink<'a>(bytes: &'a [u8]) -> Option<Body<'a>>
     ensures read { IfSome result (ReadsStep bytes.now) }
     ensures fits { IfSome result BodyFits }
 {
-    if let Some(mut at) = behind(bytes, b"unlink") {
-        let register = at.register()?;
-        let queue = at.queue()?;
-        at.end()?;
-        return Some(queued(Instr::Unlink(register, 0), queue));
+    if let Some(two) = register_queue_behind(bytes, b"unlink") {
+        return Some(queued(Instr::Unlink(two.0, 0), two.1));
     }
     None
 }

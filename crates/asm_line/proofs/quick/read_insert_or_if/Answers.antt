@@ -3,12 +3,12 @@ use Rattle.asm_line.proofs.quick.read_insert_or_if.Goals as goal
 
 pub returns-in-Some-clause-read : goal.returns-in-Some-clause-read
 returns-in-Some-clause-read c =
-    rw (c.queued.ensures) (insert_read c.in-Some.ensures c.in_ok-register.ensures.read c.in_ok-queue.ensures c.in_ok-end.ensures)
+    rw (c.queued.ensures) (insert_read c.in-Some.ensures.read.parts c.in-Some.ensures.read.first c.in-Some.ensures.read.second c.in-Some.ensures.read.done)
 
-pub returns-in-Some-behind-clause-read : goal.returns-in-Some-behind-clause-read
-returns-in-Some-behind-clause-read c =
-    rw (c.jump.ensures) (ifcancel_read c.in-Some-behind.ensures c.in_ok-register-2.ensures.read c.in_ok-label.ensures c.in_ok-end-2.ensures)
+pub returns-in-Some-register_label_behind-clause-read : goal.returns-in-Some-register_label_behind-clause-read
+returns-in-Some-register_label_behind-clause-read c =
+    rw (c.jump.ensures) (ifcancel_read c.in-Some-register_label_behind.ensures.read.parts c.in-Some-register_label_behind.ensures.read.first c.in-Some-register_label_behind.ensures.read.second c.in-Some-register_label_behind.ensures.read.done)
 
-pub returns-in-Some-behind-2-clause-read : goal.returns-in-Some-behind-2-clause-read
-returns-in-Some-behind-2-clause-read c =
-    rw (c.jump-in-Some-behind-2.ensures) (ifpending_read c.in-Some-behind-2.ensures c.in_ok-register-3.ensures.read c.in_ok-label-2.ensures c.in_ok-end-3.ensures)
+pub returns-in-Some-register_label_behind-2-clause-read : goal.returns-in-Some-register_label_behind-2-clause-read
+returns-in-Some-register_label_behind-2-clause-read c =
+    rw (c.jump-in-Some-register_label_behind-2.ensures) (ifpending_read c.in-Some-register_label_behind-2.ensures.read.parts c.in-Some-register_label_behind-2.ensures.read.first c.in-Some-register_label_behind-2.ensures.read.second c.in-Some-register_label_behind-2.ensures.read.done)
