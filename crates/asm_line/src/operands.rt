@@ -256,7 +256,8 @@ pub fn register_behind(bytes: &[u8], word: &[u8]) -> Option<Register>
 #[inline(always)]
 #[tactic(auto, using(crate::proofs::Plain::has_two))]
 pub fn registers_behind(bytes: &[u8], word: &[u8]) -> Option<(Register, Register)>
-    ensures read { IfSome result (λ two. HasTwo register register same word.now bytes.now two.0 two.1) }
+    ensures read { IfSome result (λ two.
+        HasTwo register register same word.now bytes.now two.0 two.1) }
     ensures within { IfSome result (λ two. (two.0 < REGISTERS) × (two.1 < REGISTERS)) }
 {
     let mut at = behind(bytes, word)?;
