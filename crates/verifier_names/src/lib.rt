@@ -12,7 +12,10 @@ mod names;
 mod pages;
 mod quotes;
 
-pub use code::{lesson_of_code, not_entered, of_devices, of_level, of_set, sent_down};
+pub use code::{
+    Difference, malformed, no_lower_device, no_memory, not_entered, of_level, of_meetings, of_set,
+    sent_down, stack_too_small, too_long, unreached,
+};
 pub use lesson::{About, Lesson};
 pub use listing::{ListedPart, listed_devices, listed_routine};
 pub use locks::{add_lock, spin_number};

@@ -5,8 +5,8 @@ use model::abs::Rule;
 use std::alloc::{AllocError, Global};
 use words::Words;
 
-/// All rules, by their numbers.
-pub const RULES: [Rule; 20] = [
+/// All rules, by their numbers: as many as the last one's says.
+pub const RULES: [Rule; Rule::Memory as usize] = [
     Rule::Malformed,
     Rule::Unreachable,
     Rule::StatesDiffer,
