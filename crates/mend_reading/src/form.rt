@@ -165,10 +165,13 @@ pub fn differ(completion: &Instr, returned: &Instr) -> bool {
 /// What counts of an instruction where its neighbours are looked at: its word, and whether a status
 /// is one of those that say more.
 pub fn token(instr: &Instr) -> u8 {
-    match *instr {
-        Instr::Ret(Return::WithStatus(Status::Pending)) => 41,
-        Instr::Complete(_, Status::Cancelled) => 42,
-        _ => form_of(instr).word,
+    let form = form_of(instr);
+    if form.word == RETURN && form.number == Status::Pending.code() {
+        41
+    } else if form.word == COMPLETE && form.number == Status::Cancelled.code() {
+        42
+    } else {
+        form.word
     }
 }
 

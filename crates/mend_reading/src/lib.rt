@@ -1,6 +1,7 @@
 //! Routines read as the verifier reads them, instructions taken apart, and candidates for edits.
 #![tactic(auto)]
 
+pub mod acts;
 pub mod candidate;
 pub mod form;
 pub mod loops;

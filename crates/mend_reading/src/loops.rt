@@ -1,5 +1,6 @@
 //! The loops of a routine.
 
+use crate::acts::{Act, act_of};
 use driver_set::Instr;
 use std::alloc::{AllocError, Global};
 
@@ -40,16 +41,22 @@ impl Loops {
 
     /// The innermost open loop behind an instruction, the last that was read.
     fn next(&mut self, instr: &Instr, innermost: Option<u16>) -> Option<u16> {
-        match *instr {
-            Instr::Loop(_) => u16::try_from(self.opened.len().saturating_sub(1)).ok(),
-            Instr::End => {
+        match act_of(instr) {
+            Act::Loop => u16::try_from(self.opened.len().saturating_sub(1)).ok(),
+            Act::End => {
                 let innermost = innermost?;
                 if let Some(closed) = self.closed.get_mut(innermost as usize) {
                     *closed = true;
                 }
                 self.opened_at(innermost as usize)
             }
-            _ => innermost,
+            Act::Number
+            | Act::Leave
+            | Act::Mark
+            | Act::Lock
+            | Act::Waiting
+            | Act::Packet
+            | Act::Down => innermost,
         }
     }
 

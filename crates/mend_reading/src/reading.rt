@@ -1,6 +1,7 @@
 //! A routine read as the verifier reads it, with the states on the way. What is found here leads
 //! the search; it is the verifier who judges what is offered.
 
+use crate::acts::{Act, act_of};
 use crate::loops::Loops;
 use absstate::{Abs, Rule, Tracked, are_same, broken_rule, transfer};
 use driver_set::{Driver, DriverSet, Instr, Sort};
@@ -205,12 +206,16 @@ impl Reading {
                 || label >= code.len()
                 || self.loops.round(label) != self.loops.round(at);
         }
-        match *instr {
-            Instr::Loop(_) => {
-                !self.loops.is_closed(at) || self.loops.turns(code, at).0 >= MAX_LOOPS
-            }
-            Instr::End => self.loops.opened_at(at).is_none(),
-            _ => false,
+        match act_of(instr) {
+            Act::Loop => !self.loops.is_closed(at) || self.loops.turns(code, at).0 >= MAX_LOOPS,
+            Act::End => self.loops.opened_at(at).is_none(),
+            Act::Number
+            | Act::Leave
+            | Act::Mark
+            | Act::Lock
+            | Act::Waiting
+            | Act::Packet
+            | Act::Down => false,
         }
     }
 
