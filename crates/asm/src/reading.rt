@@ -16,6 +16,7 @@ use driver_set::DriverSet;
 use model::instr::Instr;
 use model::limits::MAX_INSTRUCTIONS;
 use std::alloc::{AllocError, Global};
+use std::mem;
 use text::cut::Lines;
 
 /// What reading a line comes to: its fault, if it has one, or that memory ran out.
@@ -41,18 +42,30 @@ pub fn assemble(alloc: Global, text: &[u8]) -> Result<DriverSet, AsmFault>
 }
 
 /// The set that a text names, or its first fault.
-#[tactic(auto, using(crate::proofs::Declared::Answer::draft_read, crate::proofs::Declared::Answer::draft_refused))]
 fn set_in(alloc: Global, text: &[u8]) -> Result<Result<DriverSet, AsmFault>, AllocError>
     ensures { IfOk result (λ answer. answer ≡ set_in text.now) }
 {
     let mut draft = Draft::new(alloc);
-    if let Err(fault) = draft.read_all(alloc, Lines::of(text))? {
-        return Ok(Err(fault));
-    }
-    Ok(draft.resolved())
+    draft.answer(alloc, text)
 }
 
 impl<'a> Draft<'a> {
+    /// The set that the text names, or its first fault, where nothing was read yet.
+    #[tactic(auto, using(crate::proofs::Declared::Answer::draft_read, crate::proofs::Declared::Answer::draft_refused))]
+    fn answer(
+        &mut self,
+        alloc: Global,
+        text: &'a [u8],
+    ) -> Result<Result<DriverSet, AsmFault>, AllocError>
+        requires { self.old ≡ nothing_read }
+        ensures { IfOk result (λ answer. answer ≡ set_in text.now) }
+    {
+        match self.read_all(alloc, Lines::of(text))? {
+            Ok(()) => Ok(self.resolved(alloc)),
+            Err(fault) => Ok(Err(fault)),
+        }
+    }
+
     /// Reads lines to the end of the text, the first of which is line 1.
     fn read_all(
         &mut self,
@@ -151,26 +164,25 @@ impl<'a> Draft<'a> {
         Ok(Ok(()))
     }
 
-    /// The set that was read, unless a line uses an unknown name.
+    /// The set that was read, unless a line uses an unknown name. It is taken from the draft, which
+    /// its caller owns: so nothing else of it has to be dropped here.
     #[tactic(auto, using(crate::proofs::Orderly::Lines::sound))]
-    fn resolved(self) -> Result<DriverSet, AsmFault>
-        requires orderly { IsOrderly self }
-        requires closed { self.place ≡ Place.Outside }
-        ensures { result ≡ draft_resolved self.entry self.entry.unknown }
+    fn resolved(&mut self, alloc: Global) -> Result<DriverSet, AsmFault>
+        requires orderly { IsOrderly self.old }
+        requires closed { self.old.place ≡ Place.Outside }
+        ensures { result ≡ draft_resolved self.old self.old.unknown }
     {
-        let Draft {
-            drivers,
-            devices,
-            unknown,
-            ..
-        } = self;
-        if let Some(line) = unknown {
-            return Err(AsmFault {
+        match self.unknown {
+            Some(line) => Err(AsmFault {
                 line,
                 kind: AsmKind::UnknownName,
-            });
+            }),
+            None => {
+                let drivers = mem::replace(&mut self.drivers, Vec::new(alloc));
+                let devices = mem::replace(&mut self.devices, Vec::new(alloc));
+                Ok(DriverSet::of_sound(drivers, devices))
+            }
         }
-        Ok(DriverSet::of_sound(drivers, devices))
     }
 }
 

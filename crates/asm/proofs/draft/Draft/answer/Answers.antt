@@ -5,10 +5,10 @@ use Rattle.asm.specs.Outline.{nothing_read}
 use Rattle.asm.specs.Drafting.{draft_reading}
 use Rattle.asm.proofs.Declared.Answer.{draft_refused}
 use Rattle.asm.proofs.Orderly.Lines.{nothing_orderly}
-use Rattle.asm.proofs.reading.set_in.Goals as goal
+use Rattle.asm.proofs.draft.Draft.answer.Goals as goal
 
 pub read_all-requires-clause-orderly : goal.read_all-requires-clause-orderly
-read_all-requires-clause-orderly c = rw c.new-draft.ensures nothing_orderly
+read_all-requires-clause-orderly c = rw c.requires nothing_orderly
 
 pub returns-in-Err : goal.returns-in-Err
 returns-in-Err c =
