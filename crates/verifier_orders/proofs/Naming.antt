@@ -43,12 +43,13 @@ length_more [] g = refl
 length_more (f ∷ locks) g = omega (arith, length_more locks g)
 
 pub placed_none : (places : List ℕ) → AreByPlace places [] 0
-placed_none places = record { long = refl; each = λ k lock there. cc }
+placed_none places =
+    record { long = refl; each = λ k lock there. cc; known = λ k lock there. cc }
 
 pub placed_more : (places : List ℕ) (locks : List Guard) (count n : ℕ)
-    → AreByPlace places locks count → IsAt places n count
+    → AreByPlace places locks count → n < 9 → IsAt places n count
     → AreByPlace places (locks ++ guard_of n ∷ []) (count + 1)
-placed_more places locks count n h at =
+placed_more places locks count n h low at =
     record {
       long = omega (arith, length_more locks (guard_of n), h.long);
       each = λ k lock there. elim (get_last locks (guard_of n) lock k there) [
@@ -56,6 +57,10 @@ placed_more places locks count n h at =
         | inr last ↦
             (subst (λ (g : Guard). place_in places g ≡ k) last.1
             (ap (λ (m : ℕ). get_or places m 0) (guarded n) ∙ at ∙ sym (last.0 ∙ h.long)))
+      ];
+      known = λ k lock there. elim (get_last locks (guard_of n) lock k there) [
+        | inl before ↦ h.known k lock before
+        | inr last ↦ (n, low, sym last.1)
       ];
     }
 

@@ -1,5 +1,5 @@
 -- Edges by name tell which lock is taken under which.
-use Rattle.laws_runs.proofs.Common.{ap, refl, sym, zero, ◌∙◌, All, List, Some, [], slice_get, suc, ℕ, ◌∷◌, ◌≡◌, Set, IsSound, IsTypable, Guard}
+use Rattle.laws_runs.proofs.Common.{ap, refl, sym, zero, ◌∙◌, List, Some, [], slice_get, suc, ℕ, ◌∷◌, ◌≡◌, Set, IsSound, IsTypable, Guard}
 use Rattle.std.specs.Prelude.{get_or}
 use Rattle.laws_runs.specs.Order.{TakesUnder}
 use Rattle.verifier_orders.specs.declared.names.Edge.{Edge}

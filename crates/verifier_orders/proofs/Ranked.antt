@@ -17,6 +17,8 @@ pub record AreRankedTo (edges : List NumberedEdge) (places : List ℕ) (turn : �
       ⊎ (get_or places e.held 0 < get_or places e.taken 0)) edges
   pub left : nowhere places + turn ≡ 9
   pub filled : (place : ℕ) → place < turn → place < 9 → HasAt places place
+  pub once : (lock other : ℕ) → lock < 9 → other < 9 → get_or places lock 0 ≡ get_or places other 0
+      → IsNowhere places lock ⊎ (lock ≡ other)
 
 pub ranked_begun : (edges : List NumberedEdge) (places : List ℕ) → length places ≡ 9
     → nowhere places ≡ 9 → ((lock : ℕ) → lock < 9 → IsNowhere places lock) → AreWithin edges
@@ -28,6 +30,7 @@ ranked_begun edges places long all each within =
       rises = λ k d l. inl (each (get_or edges k d).taken (within k d l).1);
       left = omega arith;
       filled = λ place l m. absurd (omega arith);
+      once = λ lock other l m same. inl (each lock l);
     }
 
 abbrev one_at : ℕ → ℕ
@@ -101,6 +104,10 @@ module _ (edges : List NumberedEdge) (places : List ℕ) (turn : ℕ) (h : AreRa
     rises_by late e (inl at) = absurd (placed late e.taken at)
     rises_by late e (inr low) = low
 
+    once_by : 9 ≤ turn → (lock other : ℕ) → IsNowhere places lock ⊎ (lock ≡ other) → lock ≡ other
+    once_by late lock other (inl at) = absurd (placed late lock at)
+    once_by late lock other (inr same) = same
+
     pub ranked_all : 9 ≤ turn → turn ≤ 9 → AreRanked edges places
     ranked_all late most =
         record {
@@ -110,6 +117,7 @@ module _ (edges : List NumberedEdge) (places : List ℕ) (turn : ℕ) (h : AreRa
           ];
           filled = λ place l. h.filled place (omega arith) l;
           rises = λ k d within. rises_by late (get_or edges k d) (h.rises k d within);
+          once = λ lock other l m same. once_by late lock other (h.once lock other l m same);
         }
 
     module _ (lock : ℕ) (early : turn < 9) (free : IsFree edges places lock) where
@@ -177,6 +185,27 @@ module _ (edges : List NumberedEdge) (places : List ℕ) (turn : ℕ) (h : AreRa
       filled_by place low (inr late) most =
           (lock, free.0, (let same : place ≡ turn = omega arith in here ∙ sym same))
 
+      -- the turn's place is the lock's alone
+      not_yet : (k : ℕ) → IsNowhere places k ⊎ (get_or places k 0 < turn)
+          → get_or places k 0 ≡ turn → ⊥
+      not_yet k (inl at) same = absurd (omega (arith, at))
+      not_yet k (inr low) same = absurd (omega arith)
+
+      once_after : (k j : ℕ) → k < 9 → j < 9 → get_or after k 0 ≡ get_or after j 0
+          → (k ≡ lock) ⊎ (k ≢ lock) → (j ≡ lock) ⊎ (j ≢ lock) → IsNowhere after k ⊎ (k ≡ j)
+      once_after k j l m same (inl one) (inl two) = inr (one ∙ sym two)
+      once_after k j l m same (inl one) (inr apart) =
+          let at : get_or after k 0 ≡ turn = ap (λ (n : ℕ). get_or after n 0) one ∙ here in
+          absurd (not_yet j (h.low j m) (sym (other j apart) ∙ sym same ∙ at))
+      once_after k j l m same (inr apart) (inl two) =
+          let at : get_or after j 0 ≡ turn = ap (λ (n : ℕ). get_or after n 0) two ∙ here in
+          absurd (not_yet k (h.low k l) (sym (other k apart) ∙ same ∙ at))
+      once_after k j l m same (inr apart) (inr away) =
+          elim (h.once k j l m (sym (other k apart) ∙ same ∙ other j away)) [
+            | inl at ↦ inl (other k apart ∙ at)
+            | inr is ↦ inr is
+          ]
+
       pub ranked_more : AreWithin edges → AreRankedTo edges after (turn + 1)
       ranked_more within =
           record {
@@ -187,6 +216,8 @@ module _ (edges : List NumberedEdge) (places : List ℕ) (turn : ℕ) (h : AreRa
                 edge_after e.held e.taken (within k d l).0 (within k d l).1 (h.rises k d l)
                 (free.2 k d l) (cases_eq e.taken lock);
             filled = λ place l low. filled_by place low (cases_lt place turn) l;
+            once = λ k j l m same.
+                once_after k j l m same (cases_eq k lock) (cases_eq j lock);
             left = omega (
               arith,
               h.left,

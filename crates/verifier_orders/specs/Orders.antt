@@ -1,6 +1,8 @@
 -- The order of the locks of each driver, or a shortest cycle (Driver Verifier, deadlock detection).
-use Rattle.std.specs.Prelude.{ℕ, ◌≡◌, ◌≢◌, ◌≤◌, ◌<◌, ◌⊎◌, List, [], ◌∷◌, All, Some, slice_get, length, ⊤}
+use Rattle.std.specs.Prelude.{ℕ, ◌≡◌, ◌≢◌, ◌≤◌, ◌<◌, ◌⊎◌, ◌||◌, Bool, true, false, List, [], ◌∷◌, All, AllPairs, Contains, Some, nat_eq, slice_get, length, ⊤}
+use Rattle.std.specs.List.{list_any}
 use Rattle.model.specs.declared.set.Guard.{Guard}
+use Rattle.model.specs.declared.set.Guard.TheVariants.{DeviceLock, CancelLock}
 use Rattle.model.specs.Set.{Set}
 use Rattle.laws_runs.specs.Order.{IsOrder, TakesUnder, lock_names}
 use Rattle.verifier_orders.specs.declared.names.Edge.{Edge}
@@ -60,12 +62,40 @@ pub record IsShortestCycle (set : Set) (driver : ℕ) (cycle : List Edge) : Type
   pub first : (other : List Edge) → IsLockCycle set driver other
       → length other ≡ length cycle → AreNoLater cycle other
 
+-- a lock of a driver is in a pair: its routines take another under it, or it under another
+abbrev pub IsInPair : Set → ℕ → Guard → Type 0
+IsInPair set driver lock =
+    (other : Guard) × (TakesUnder set driver lock other ⊎ TakesUnder set driver other lock)
+
 -- the nine locks of a driver in an order in which its routines take them
 pub record AreOrdered (set : Set) (driver : ℕ) (locks : List Guard) : Type 0 where
   pub place : Guard → ℕ
   pub order : IsOrder set driver place
   pub nine : length locks ≡ lock_names
   pub placed : (k : ℕ) (lock : Guard) → slice_get locks k ≡ Some lock → place lock ≡ k
+  pub has : (lock : Guard) → IsInPair set driver lock → slice_get locks (place lock) ≡ Some lock
+
+-- those of its locks that are in a pair, and no others, in such an order
+pub record ArePaired (set : Set) (driver : ℕ) (locks : List Guard) : Type 0 where
+  pub place : Guard → ℕ
+  pub order : IsOrder set driver place
+  pub rises : AllPairs (λ (one later : Guard). place one < place later) locks
+  pub each : All (IsInPair set driver) locks
+  pub all : (lock : Guard) → IsInPair set driver lock → Contains locks lock
+
+-- a lock is one of the two of an edge
+abbrev pub same_lock : Guard → Guard → Bool
+same_lock (DeviceLock spin) (DeviceLock other) = nat_eq spin other
+same_lock (DeviceLock spin) CancelLock = false
+same_lock CancelLock (DeviceLock other) = false
+same_lock CancelLock CancelLock = true
+
+abbrev pub is_of : Guard → Edge → Bool
+is_of lock e = same_lock e.held lock || same_lock e.taken lock
+
+-- and of one of some
+abbrev pub is_in : List Edge → Guard → Bool
+is_in pairs lock = list_any (is_of lock) pairs
 
 -- a driver's locks in an order, or a shortest cycle where there is none
 abbrev pub IsLockOrder : Set → ℕ → LockOrder → Type 0

@@ -43,8 +43,10 @@ HasNowhere places = HasAt places 9
 abbrev pub AreFilled : List ℕ → Type 0
 AreFilled places = (place : ℕ) → place < 9 → HasAt places place
 
--- each edge leads to a later place, and the places are nine
+-- each edge leads to a later place, and the places are nine, of which each lock has its own
 pub record AreRanked (edges : List NumberedEdge) (places : List ℕ) : Type 0 where
   pub few : (lock : ℕ) → get_or places lock 0 < 9
   pub filled : AreFilled places
   pub rises : All (λ (e : NumberedEdge). get_or places e.held 0 < get_or places e.taken 0) edges
+  pub once : (lock other : ℕ) → lock < 9 → other < 9 → get_or places lock 0 ≡ get_or places other 0
+      → lock ≡ other
