@@ -134,9 +134,10 @@ impl<'a> Case<'a> {
     /// The lock that a routine holds and shouldn't: the system cancel spin lock where the rule is
     /// the one on it, and else the first one.
     pub(crate) fn held(&self) -> Guard {
-        let spin = match self.rule {
-            Rule::CancelSpinLock => None,
-            _ => first_held(self.state()),
+        let spin = if self.rule == Rule::CancelSpinLock {
+            None
+        } else {
+            first_held(self.state())
         };
         match spin {
             Some(lock) => Guard::DeviceLock(lock),
@@ -159,10 +160,12 @@ fn is_so(fact: &Fact, state: &Abs) -> bool {
     match fact {
         Fact::Blank(register) => kind_of(state, *register) == Kind::Blank,
         Fact::Full(register) => kind_of(state, *register) != Kind::Blank,
-        Fact::Armed(number) => match state.kinds.get(*number) {
-            Some(Kind::Queued(_, stage)) => *stage == Stage::Armed,
-            _ => false,
-        },
+        Fact::Armed(number) => {
+            matches!(
+                state.kinds.get(*number),
+                Some(Kind::Queued(_, Stage::Armed))
+            )
+        }
         Fact::Held(lock) => is_held(state, lock),
         Fact::Unheld(lock) => !is_held(state, lock),
         Fact::Token => state.token,
@@ -188,8 +191,12 @@ pub(crate) fn first_packet(state: &Abs) -> Option<usize> {
     state.kinds.iter().position(|kind| is_packet(*kind))
 }
 
-pub(crate) fn is_packet(kind: Kind) -> bool {
-    !matches!(kind, Kind::Blank | Kind::Num | Kind::Lower)
+/// Whether what a register has is a packet.
+pub fn is_packet(kind: Kind) -> bool {
+    match kind {
+        Kind::Blank | Kind::Num | Kind::Lower => false,
+        Kind::New | Kind::Own | Kind::Queued(..) | Kind::View => true,
+    }
 }
 
 /// The first spin lock of the device that is held, if one is.

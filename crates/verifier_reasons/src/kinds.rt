@@ -1,5 +1,6 @@
 //! Registers that have something else than an instruction wants of them, in words.
 
+use crate::acts::{Act, Marking, Queueing, act_of};
 use crate::case::{Case, first_packet, is_packet, kind_of};
 use crate::returns::no_lower;
 use model::abs::{Abs, Duty, Kind};
@@ -16,24 +17,30 @@ enum Lack {
     Packet(Register),
 }
 
-/// What an instruction lacks in the state that arrives there, where it lacks something.
-fn lack_of(instr: &Instr, state: &Abs) -> Lack {
-    match *instr {
-        Instr::Ret(Return::Lower(r)) => Lack::Lower(r),
-        Instr::Add(r, s) | Instr::Subtract(r, s) | Instr::JumpIfLess(r, s, _) => {
-            Lack::Number(if is_number(state, r) { s } else { r })
-        }
-        Instr::JumpIfZero(r, _) | Instr::Store(_, r) | Instr::StorePaged(_, r) => Lack::Number(r),
-        Instr::Put(packet, number) if is_packet(kind_of(state, packet)) => Lack::Number(number),
-        _ => Lack::Packet(packet_of(instr)),
-    }
+/// What an instruction wants of its registers.
+#[derive(Clone, Copy)]
+enum Wanted {
+    Nothing,
+    /// The status that a lower driver returned.
+    Lower(Register),
+    Number(Register),
+    Numbers(Register, Register),
+    Packet(Register),
+    /// A packet, and a number for a field of it.
+    PacketAndNumber(Register, Register),
 }
 
-/// The register of which an instruction wants a packet, where it wants one.
-pub(crate) fn packet_of(instr: &Instr) -> Register {
+/// What an instruction wants of its registers. Each instruction is named.
+fn wants_of(instr: &Instr) -> Wanted {
     match *instr {
-        Instr::Put(r, _)
-        | Instr::Get(_, r, _)
+        Instr::Add(r, s) | Instr::Subtract(r, s) | Instr::JumpIfLess(r, s, _) => {
+            Wanted::Numbers(r, s)
+        }
+        Instr::JumpIfZero(r, _) | Instr::Store(_, r) | Instr::StorePaged(_, r) => {
+            Wanted::Number(r)
+        }
+        Instr::Put(packet, number) => Wanted::PacketAndNumber(packet, number),
+        Instr::Get(_, r, _)
         | Instr::Mark(r)
         | Instr::Insert(r, _)
         | Instr::Unlink(r, _)
@@ -46,8 +53,55 @@ pub(crate) fn packet_of(instr: &Instr) -> Register {
         | Instr::Pass(r)
         | Instr::Call(r, _)
         | Instr::Complete(r, _)
-        | Instr::IfPending(r, _) => r,
-        _ => Register::FIRST,
+        | Instr::IfPending(r, _) => Wanted::Packet(r),
+        Instr::Ret(form) => wants_back(form),
+        Instr::Const(..)
+        | Instr::Move(..)
+        | Instr::Clear(_)
+        | Instr::Jump(_)
+        | Instr::Loop(_)
+        | Instr::End
+        | Instr::Load(..)
+        | Instr::LoadPaged(..)
+        | Instr::Acquire(_)
+        | Instr::Release(_)
+        | Instr::AcquireCancel
+        | Instr::ReleaseCancel
+        | Instr::Remove(..)
+        | Instr::Take(..)
+        | Instr::Next => Wanted::Nothing,
+    }
+}
+
+/// What a return in this form wants.
+fn wants_back(form: Return) -> Wanted {
+    match form {
+        Return::Lower(r) => Wanted::Lower(r),
+        Return::WithStatus(_) | Return::Continue | Return::Stop | Return::Void => Wanted::Nothing,
+    }
+}
+
+/// What an instruction lacks in the state that arrives there, where it lacks something.
+fn lack_of(instr: &Instr, state: &Abs) -> Lack {
+    match wants_of(instr) {
+        Wanted::Lower(r) => Lack::Lower(r),
+        Wanted::Number(r) => Lack::Number(r),
+        Wanted::Numbers(r, s) => Lack::Number(if is_number(state, r) { s } else { r }),
+        Wanted::PacketAndNumber(packet, number) if is_packet(kind_of(state, packet)) => {
+            Lack::Number(number)
+        }
+        Wanted::Packet(r) | Wanted::PacketAndNumber(r, _) => Lack::Packet(r),
+        Wanted::Nothing => Lack::Packet(Register::FIRST),
+    }
+}
+
+/// The register of which an instruction wants a packet, where it wants one.
+pub(crate) fn packet_of(instr: &Instr) -> Register {
+    match wants_of(instr) {
+        Wanted::Packet(r) | Wanted::PacketAndNumber(r, _) => r,
+        Wanted::Nothing | Wanted::Lower(_) | Wanted::Number(_) | Wanted::Numbers(..) => {
+            Register::FIRST
+        }
     }
 }
 
@@ -90,7 +144,7 @@ fn no_number(state: &Abs, register: Register) -> Lesson {
             source,
             "return it by `ret lower`, and use another register for numbers",
         ),
-        _ => Lesson::of(
+        Kind::Num | Kind::New | Kind::Own | Kind::Queued(..) | Kind::View => Lesson::of(
             "a number is wanted, and the register has a packet",
             source,
             "`get` a field of the packet into another register, and name that one",
@@ -106,12 +160,13 @@ fn no_packet(case: &Case<'_>, register: Register) -> Lesson {
         Kind::Lower => Lesson::of(
             "a packet is wanted, and it was sent down: the register has the status returned for it",
             source,
-            match case.instr {
-                Instr::Complete(_, _) => "take it out: the lower driver completes the packet",
-                _ => "do this before the packet is sent down",
+            if matches!(case.instr, Instr::Complete(..)) {
+                "take it out: the lower driver completes the packet"
+            } else {
+                "do this before the packet is sent down"
             },
         ),
-        _ => Lesson::of(
+        Kind::Num | Kind::New | Kind::Own | Kind::Queued(..) | Kind::View => Lesson::of(
             "a packet is wanted, and the register has a number",
             source,
             "name the register that has the packet",
@@ -122,34 +177,76 @@ fn no_packet(case: &Case<'_>, register: Register) -> Lesson {
 /// A register is blank where a packet is wanted: since its queue has no cancel routine, or since
 /// it was given away, or as it never had one.
 fn no_packet_any_more(case: &Case<'_>, register: Register, source: &'static str) -> Lesson {
-    match (*case.instr, case.emptied_by(register)) {
-        (Instr::Arm(_, queue) | Instr::Unlink(_, queue), Some(Instr::Insert(_, _)))
-            if case.is_plain(queue) => { no_cancel_routine(queue) }
-        (Instr::Disarm(_, _), Some(Instr::Insert(_, queue))) => no_cancel_routine(*queue),
-        (_, Some(Instr::Disarm(_, _))) => Lesson::of(
+    let Some(emptied) = case.emptied_by(register) else {
+        return never_there(case, source);
+    };
+    match act_of(emptied) {
+        Act::Queue(Queueing::Disarm) => Lesson::of(
             "a packet is wanted, and the register is blank: the packet is its cancel routine's",
             "the Driver Kit on driver-managed IRP queues and IoSetCancelRoutine",
             "take it out, and leave the packet to its cancel routine",
         ),
-        (_, None) => never_there(case, source),
-        _ => Lesson::of(
-            "a packet is wanted, and the register is blank: it was given away before",
-            source,
-            if is_look(case) {
-                "do this before the packet is completed, passed on or put away"
-            } else {
-                "take it out, or do it before the packet is completed, passed on or put away"
-            },
-        ),
+        Act::Queue(Queueing::Insert(queue)) => match plain_queue(case, queue) {
+            Some(plain) => no_cancel_routine(plain),
+            None => given_away(case, source),
+        },
+        Act::Queue(Queueing::Remove(_) | Queueing::Unlink(_) | Queueing::Arm(_))
+        | Act::Plain(_)
+        | Act::Look
+        | Act::Mark(_)
+        | Act::Lock(_)
+        | Act::Device(_)
+        | Act::Send(_)
+        | Act::Return(_) => given_away(case, source),
     }
+}
+
+/// The queue without a cancel routine for whose packet the instruction wants one, where the packet
+/// was put into a queue.
+fn plain_queue(case: &Case<'_>, inserted: u8) -> Option<u8> {
+    match act_of(case.instr) {
+        Act::Queue(Queueing::Disarm) => Some(inserted),
+        Act::Queue(Queueing::Arm(queue) | Queueing::Unlink(queue)) if case.is_plain(queue) => {
+            Some(queue)
+        }
+        Act::Queue(
+            Queueing::Arm(_) | Queueing::Unlink(_) | Queueing::Insert(_) | Queueing::Remove(_),
+        )
+        | Act::Plain(_)
+        | Act::Look
+        | Act::Mark(_)
+        | Act::Lock(_)
+        | Act::Device(_)
+        | Act::Send(_)
+        | Act::Return(_) => None,
+    }
+}
+
+/// A register is blank where a packet is wanted, which was given away.
+fn given_away(case: &Case<'_>, source: &'static str) -> Lesson {
+    Lesson::of(
+        "a packet is wanted, and the register is blank: it was given away before",
+        source,
+        if is_look(case) {
+            "do this before the packet is completed, passed on or put away"
+        } else {
+            "take it out, or do it before the packet is completed, passed on or put away"
+        },
+    )
 }
 
 /// Whether an instruction looks at a packet, or is the first mark of it: so it can be done earlier.
 fn is_look(case: &Case<'_>) -> bool {
-    match *case.instr {
-        Instr::Get(_, _, _) | Instr::Put(_, _) | Instr::IfCancel(_, _) => true,
-        Instr::Mark(_) => case.state().duty != Duty::Pending,
-        _ => false,
+    match act_of(case.instr) {
+        Act::Look => true,
+        Act::Mark(Marking::Mark) => case.state().duty != Duty::Pending,
+        Act::Mark(Marking::Look)
+        | Act::Plain(_)
+        | Act::Lock(_)
+        | Act::Queue(_)
+        | Act::Device(_)
+        | Act::Send(_)
+        | Act::Return(_) => false,
     }
 }
 

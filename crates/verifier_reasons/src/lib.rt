@@ -2,6 +2,7 @@
 //! mend it. The words are plain code, which takes what memory it needs and writes nothing itself.
 #![tactic(auto)]
 
+mod acts;
 mod case;
 mod kinds;
 mod locks;
@@ -10,7 +11,8 @@ mod returns;
 mod rules;
 mod tokens;
 
-pub use case::{Case, Fact, is_held};
+pub use acts::{Act, Locking, Plain, Queueing, Sending, Waiting, act_of, list_of};
+pub use case::{Case, Fact, is_held, is_packet};
 pub use kinds::blank_register;
-pub use locks::{list_of, lock_meant};
+pub use locks::lock_meant;
 pub use rules::lesson_of;

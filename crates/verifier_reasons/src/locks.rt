@@ -1,5 +1,6 @@
 //! The rules on locks in words: who holds them, and what isn't done while one is held.
 
+use crate::acts::{Act, Locking, act_of, list_of, lock_of};
 use crate::case::{Case, Fact, kind_of};
 use crate::kinds::packet_of;
 use model::abs::{Kind, Rule, Stage};
@@ -10,15 +11,21 @@ use verifier_names::{About, Lesson, sent_down};
 /// The rules on who holds a lock.
 pub(crate) fn of_locks(case: &Case<'_>) -> Lesson {
     let source = "Static Driver Verifier, SpinLock and CancelSpinLock; bug checks 0x0F and 0x10";
-    match (*case.instr, lock_of(case.instr)) {
-        (Instr::Acquire(_) | Instr::AcquireCancel, Some(lock)) => Lesson::about(
+    match act_of(case.instr) {
+        Act::Lock(Locking::Acquire(lock)) => Lesson::about(
             "the lock is held already, and would be waited for without an end",
             source,
             "take it out, or $E before it",
             About::lock(&lock),
         ),
-        (_, Some(lock)) => not_held(case, lock, source),
-        (_, None) => Lesson::about(
+        Act::Lock(Locking::Release(lock)) => not_held(case, lock, source),
+        Act::Plain(_)
+        | Act::Look
+        | Act::Mark(_)
+        | Act::Queue(_)
+        | Act::Device(_)
+        | Act::Send(_)
+        | Act::Return(_) => Lesson::about(
             "the routine returns while $L is held",
             source,
             "$E before the return",
@@ -42,39 +49,34 @@ fn not_held(case: &Case<'_>, lock: Guard, source: &'static str) -> Lesson {
     )
 }
 
-/// The lock that an instruction acquires or releases.
-pub(crate) fn lock_of(instr: &Instr) -> Option<Guard> {
-    match *instr {
-        Instr::Acquire(lock) | Instr::Release(lock) => Some(Guard::DeviceLock(lock)),
-        Instr::AcquireCancel | Instr::ReleaseCancel => Some(Guard::CancelLock),
-        _ => None,
-    }
-}
-
 /// The lock that a rule on locks or on what they guard is about at an instruction.
 pub fn lock_meant(case: &Case<'_>) -> Option<Guard> {
-    match (case.rule, *case.instr) {
-        (Rule::LockHeld, _) | (Rule::SpinLock | Rule::CancelSpinLock, Instr::Ret(_)) => {
+    match case.rule {
+        Rule::LockHeld => Some(case.held()),
+        Rule::SpinLock | Rule::CancelSpinLock if matches!(case.instr, Instr::Ret(_)) => {
             Some(case.held())
         }
-        (Rule::SpinLock | Rule::CancelSpinLock, _) => lock_of(case.instr),
-        (Rule::Guard, _) => match list_of(case.instr) {
+        Rule::SpinLock | Rule::CancelSpinLock => lock_of(case.instr),
+        Rule::Guard => match list_of(case.instr) {
             Some(list) => case.guard(list),
             None => None,
         },
-        _ => None,
-    }
-}
-
-/// The list that an instruction touches, if it touches one.
-pub fn list_of(instr: &Instr) -> Option<QueueName> {
-    match *instr {
-        Instr::Insert(_, queue)
-        | Instr::Remove(_, queue, _)
-        | Instr::Unlink(_, queue)
-        | Instr::Arm(_, queue) => Some(QueueName::Declared(queue)),
-        Instr::Start(_) | Instr::Next | Instr::Dequeue(_) => Some(QueueName::DeviceQueue),
-        _ => None,
+        Rule::Malformed
+        | Rule::Unreachable
+        | Rule::StatesDiffer
+        | Rule::WrongKind
+        | Rule::DoubleCompletion
+        | Rule::MarkIrpPending
+        | Rule::Level
+        | Rule::CancelState
+        | Rule::Dropped
+        | Rule::Token
+        | Rule::Sort
+        | Rule::Completion
+        | Rule::StackTooSmall
+        | Rule::NoLower
+        | Rule::TooLong
+        | Rule::Memory => None,
     }
 }
 
@@ -87,17 +89,15 @@ pub(crate) fn lock_held(case: &Case<'_>) -> Lesson {
     } else {
         "a packet is completed or sent down while $L is held"
     };
-    let register = packet_of(case.instr);
-    match kind_of(case.state(), register) {
-        _ if is_sent_elsewhere(case) => sent_down(case.sort),
-        Kind::Queued(list, stage) => Lesson::about(
-            why,
-            source,
-            owned_and_released(case, list, stage),
-            case.about(register.index(), list),
-        ),
-        _ => Lesson::about(why, source, "$E before it", About::lock(&case.held())),
+    if is_sent_elsewhere(case) {
+        return sent_down(case.sort);
     }
+    let register = packet_of(case.instr);
+    if let Kind::Queued(list, stage) = kind_of(case.state(), register) {
+        let about = case.about(register.index(), list);
+        return Lesson::about(why, source, owned_and_released(case, list, stage), about);
+    }
+    Lesson::about(why, source, "$E before it", About::lock(&case.held()))
 }
 
 /// Whether another routine than a dispatch routine sends a packet down.
@@ -119,7 +119,9 @@ fn owned_and_released(case: &Case<'_>, list: QueueName, stage: Stage) -> &'stati
             "`disarm $R L` and $E before it; at L, $E and leave the packet to its cancel routine"
         }
         (Stage::Cancelling, QueueName::DeviceQueue) => "`dequeue $R` and $E before it",
-        (Stage::Cancelling, _) if cancel => "`relc`, $A, `unlink $R $Q` and $E before it",
-        (Stage::Cancelling, _) => "`unlink $R $Q` and $E before it",
+        (Stage::Cancelling, QueueName::Declared(_)) if cancel => {
+            "`relc`, $A, `unlink $R $Q` and $E before it"
+        }
+        (Stage::Cancelling, QueueName::Declared(_)) => "`unlink $R $Q` and $E before it",
     }
 }

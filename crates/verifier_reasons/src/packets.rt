@@ -1,8 +1,9 @@
 //! The rules on packets in words: whose they are, and what is owed for them.
 
+use crate::acts::{Act, Locking, Marking, Plain, Queueing, Waiting, act_of, list_of};
 use crate::case::{Case, Fact, is_held, is_packet, kind_of};
 use crate::kinds::{never_there, no_cancel_routine, packet_of};
-use crate::locks::{is_sent_elsewhere, list_of, lock_of};
+use crate::locks::is_sent_elsewhere;
 use crate::returns::{is_lent_still, of_form, of_marks};
 use crate::tokens::of_token;
 use model::abs::{Kind, Rule, Stage};
@@ -20,20 +21,31 @@ const WAITING: &str = "the Driver Kit on IoStartPacket, IoStartNextPacket and ca
 /// The rule on packets that are completed twice.
 pub(crate) fn doubled(case: &Case<'_>) -> Lesson {
     let source = "Static Driver Verifier, DoubleCompletion; IoCompleteRequest; bug check 0x44";
-    match case.emptied_by(packet_of(case.instr)) {
-        None => never_there(case, source),
-        Some(Instr::Disarm(_, _)) => Lesson::of(
+    let Some(emptied) = case.emptied_by(packet_of(case.instr)) else {
+        return never_there(case, source);
+    };
+    match act_of(emptied) {
+        Act::Queue(Queueing::Disarm) => Lesson::of(
             "the register is blank: its packet is the cancel routine's, which completes it",
             source,
             "take it out, and leave the packet to its cancel routine",
         ),
-        Some(Instr::Move(to, _)) => Lesson::about(
+        Act::Plain(Plain::Move(to)) => Lesson::about(
             "the register is blank: what it had was moved to another one",
             source,
             "name the register that it was moved to, $R",
             About::register(to.index()),
         ),
-        _ => Lesson::of(
+        Act::Queue(
+            Queueing::Insert(_) | Queueing::Remove(_) | Queueing::Unlink(_) | Queueing::Arm(_),
+        )
+        | Act::Plain(Plain::Number | Plain::Clear | Plain::Loop(_) | Plain::End)
+        | Act::Look
+        | Act::Mark(_)
+        | Act::Lock(_)
+        | Act::Device(_)
+        | Act::Send(_)
+        | Act::Return(_) => Lesson::of(
             "the register is blank: its packet was completed or given away before",
             source,
             "complete a packet once, and before it is handed on",
@@ -43,20 +55,37 @@ pub(crate) fn doubled(case: &Case<'_>) -> Lesson {
 
 /// The rule on the locks of queues and of the device queue.
 pub(crate) fn of_guards(case: &Case<'_>) -> Lesson {
-    let cancelled = Kind::Queued(QueueName::DeviceQueue, Stage::Cancelling);
-    match *case.instr {
-        Instr::Release(_) | Instr::ReleaseCancel => let_go(case),
-        Instr::Next if !case.state().token => of_token(case),
-        Instr::Dequeue(register) if kind_of(case.state(), register) != cancelled => {
-            of_another_list(case)
-        }
-        Instr::Start(_) | Instr::Next | Instr::Dequeue(_) => Lesson::of(
+    match act_of(case.instr) {
+        Act::Lock(Locking::Release(lock)) => let_go(case, lock),
+        Act::Device(waiting) => of_waiting(case, waiting),
+        Act::Lock(Locking::Acquire(_))
+        | Act::Plain(_)
+        | Act::Look
+        | Act::Mark(_)
+        | Act::Queue(_)
+        | Act::Send(_)
+        | Act::Return(_) => unguarded(case),
+    }
+}
+
+/// The device queue is touched while the system cancel spin lock isn't held.
+fn of_waiting(case: &Case<'_>, waiting: Waiting) -> Lesson {
+    match waiting {
+        Waiting::Next if !case.state().token => of_token(case),
+        Waiting::Dequeue if !is_cancelled(case) => of_another_list(case),
+        Waiting::Start | Waiting::Next | Waiting::Dequeue => Lesson::of(
             "packets of the device queue can be cancelled, and the system cancel lock isn't held",
             WAITING,
             "`acqc` before it, and `relc` after it",
         ),
-        _ => unguarded(case),
+        Waiting::Take | Waiting::Begin => unguarded(case),
     }
+}
+
+/// Whether the packet of the instruction is one of the device queue that is being cancelled.
+fn is_cancelled(case: &Case<'_>) -> bool {
+    kind_of(case.state(), packet_of(case.instr))
+        == Kind::Queued(QueueName::DeviceQueue, Stage::Cancelling)
 }
 
 /// A queue is touched while its lock isn't held.
@@ -76,19 +105,25 @@ fn unguarded(case: &Case<'_>) -> Lesson {
 /// Whether the packet that an instruction takes off a queue or arms stands there.
 fn stands_there(case: &Case<'_>, list: QueueName) -> bool {
     let kind = kind_of(case.state(), packet_of(case.instr));
-    match case.instr {
-        Instr::Unlink(_, _) => {
+    match act_of(case.instr) {
+        Act::Queue(Queueing::Unlink(_)) => {
             kind == Kind::Queued(list, Stage::Listed)
                 || kind == Kind::Queued(list, Stage::Cancelling)
         }
-        Instr::Arm(_, _) => kind == Kind::Queued(list, Stage::Listed),
-        _ => true,
+        Act::Queue(Queueing::Arm(_)) => kind == Kind::Queued(list, Stage::Listed),
+        Act::Queue(Queueing::Insert(_) | Queueing::Remove(_) | Queueing::Disarm)
+        | Act::Plain(_)
+        | Act::Look
+        | Act::Mark(_)
+        | Act::Lock(_)
+        | Act::Device(_)
+        | Act::Send(_)
+        | Act::Return(_) => true,
     }
 }
 
 /// A lock is released while a register has a packet that stays where it is under the lock.
-fn let_go(case: &Case<'_>) -> Lesson {
-    let lock = lock_of(case.instr).unwrap_or(Guard::CancelLock);
+fn let_go(case: &Case<'_>, lock: Guard) -> Lesson {
     let Some((number, list, stage)) = case.kept_by(&lock) else {
         return Lesson::of(
             "the lock is released while a register has a packet that it guards",
@@ -116,7 +151,7 @@ fn let_go(case: &Case<'_>) -> Lesson {
             "`dequeue $R` before `relc`",
             about,
         ),
-        _ => Lesson::about(
+        Stage::Taken | Stage::Armed => Lesson::about(
             "$L is released while the packet in $R, taken off queue $Q, may still be cancelled",
             QUEUES,
             "`disarm $R L` behind the `remove`, with the same label: there the packet is left to \
@@ -130,17 +165,15 @@ fn let_go(case: &Case<'_>) -> Lesson {
 fn of_another_list(case: &Case<'_>) -> Lesson {
     let why = "the packet isn't one of the device queue that is being cancelled";
     let register = packet_of(case.instr);
-    match kind_of(case.state(), register) {
-        Kind::Queued(list, Stage::Cancelling) => {
-            let about = case.about(register.index(), list);
-            Lesson::about(why, QUEUES, unlinked(case, list), about)
-        }
-        _ => Lesson::of(
-            why,
-            QUEUES,
-            "take it out: the cancel routine of the device queue takes its packet off, once",
-        ),
+    if let Kind::Queued(list, Stage::Cancelling) = kind_of(case.state(), register) {
+        let about = case.about(register.index(), list);
+        return Lesson::about(why, QUEUES, unlinked(case, list), about);
     }
+    Lesson::of(
+        why,
+        QUEUES,
+        "take it out: the cancel routine of the device queue takes its packet off, once",
+    )
 }
 
 /// How a packet is taken off a queue in place of another instruction.
@@ -154,24 +187,61 @@ fn unlinked(case: &Case<'_>, list: QueueName) -> &'static str {
 
 /// The rule on packets that may be cancelled.
 pub(crate) fn of_cancellation(case: &Case<'_>) -> Lesson {
-    let register = packet_of(case.instr);
-    match (*case.instr, kind_of(case.state(), register)) {
-        (Instr::Remove(_, queue, _), _) => named_still(case, QueueName::Declared(queue)),
-        (Instr::Dequeue(_), _) => of_another_list(case),
-        (Instr::Unlink(_, queue) | Instr::Arm(_, queue), Kind::Queued(list, _))
-            if list != QueueName::Declared(queue) => { in_another(case, list) }
-        (Instr::Unlink(_, _), kind) => not_unlinked(case, kind),
-        (Instr::Arm(_, queue), kind) => not_armed(case, kind, QueueName::Declared(queue)),
-        (Instr::Disarm(_, _), kind) => not_disarmed(case, kind),
-        (Instr::Mark(_), _) => of_marks(case),
-        _ if is_sent_elsewhere(case) => { sent_down(case.sort) }
-        (_, Kind::Queued(list, stage)) => not_own(case, list, stage),
-        _ => Lesson::of(
-            "the packet may still be cancelled, so it isn't the routine's own",
-            QUEUES,
-            "`disarm` and `unlink` it under the lock of its queue first",
-        ),
+    match act_of(case.instr) {
+        Act::Queue(queueing) => of_queueing(case, queueing),
+        Act::Device(Waiting::Dequeue) => of_another_list(case),
+        Act::Mark(Marking::Mark) => of_marks(case),
+        Act::Mark(Marking::Look)
+        | Act::Plain(_)
+        | Act::Look
+        | Act::Lock(_)
+        | Act::Device(Waiting::Start | Waiting::Take | Waiting::Begin | Waiting::Next)
+        | Act::Send(_)
+        | Act::Return(_) => of_use(case),
     }
+}
+
+/// The same where the instruction is about a queue.
+fn of_queueing(case: &Case<'_>, queueing: Queueing) -> Lesson {
+    let kind = kind_of(case.state(), packet_of(case.instr));
+    match queueing {
+        Queueing::Insert(_) => of_use(case),
+        Queueing::Remove(queue) => named_still(case, QueueName::Declared(queue)),
+        Queueing::Unlink(queue) => match another_list(kind, QueueName::Declared(queue)) {
+            Some(list) => in_another(case, list),
+            None => not_unlinked(case, kind),
+        },
+        Queueing::Arm(queue) => match another_list(kind, QueueName::Declared(queue)) {
+            Some(list) => in_another(case, list),
+            None => not_armed(case, kind, QueueName::Declared(queue)),
+        },
+        Queueing::Disarm => not_disarmed(case, kind),
+    }
+}
+
+/// The list of a packet, where it is another one than this.
+fn another_list(kind: Kind, queue: QueueName) -> Option<QueueName> {
+    if let Kind::Queued(list, _) = kind
+        && list != queue
+    {
+        return Some(list);
+    }
+    None
+}
+
+/// A packet that may be cancelled is used or handed on.
+fn of_use(case: &Case<'_>) -> Lesson {
+    if is_sent_elsewhere(case) {
+        return sent_down(case.sort);
+    }
+    if let Kind::Queued(list, stage) = kind_of(case.state(), packet_of(case.instr)) {
+        return not_own(case, list, stage);
+    }
+    Lesson::of(
+        "the packet may still be cancelled, so it isn't the routine's own",
+        QUEUES,
+        "`disarm` and `unlink` it under the lock of its queue first",
+    )
 }
 
 /// A packet of a queue is taken while a register still names another one that stands there.
@@ -183,7 +253,7 @@ fn named_still(case: &Case<'_>, queue: QueueName) -> Lesson {
     };
     let mend = match stage {
         Stage::Armed => "$E before it, which leaves that one to the queue, and $A again",
-        _ => "`unlink $R $Q` before it",
+        Stage::Listed | Stage::Taken | Stage::Cancelling => "`unlink $R $Q` before it",
     };
     Lesson::about(why, QUEUES, mend, case.about(number, queue))
 }
@@ -191,10 +261,10 @@ fn named_still(case: &Case<'_>, queue: QueueName) -> Lesson {
 /// A packet of one list is unlinked from another one, or armed for it.
 fn in_another(case: &Case<'_>, list: QueueName) -> Lesson {
     let why = "the packet is one of another list";
-    let mend = match (list, case.instr) {
-        (QueueName::DeviceQueue, _) => "`dequeue $R` instead, before `relc`",
-        (_, Instr::Arm(_, _)) => "`arm $R $Q` instead",
-        _ => unlinked(case, list),
+    let mend = match list {
+        QueueName::DeviceQueue => "`dequeue $R` instead, before `relc`",
+        QueueName::Declared(_) if matches!(case.instr, Instr::Arm(..)) => "`arm $R $Q` instead",
+        QueueName::Declared(_) => unlinked(case, list),
     };
     Lesson::about(why, QUEUES, mend, case.about(case.register(), list))
 }
@@ -215,7 +285,13 @@ fn not_unlinked(case: &Case<'_>, kind: Kind) -> Lesson {
             "`disarm $R L` instead; at L, leave the packet to its cancel routine",
             about,
         ),
-        _ => Lesson::of(
+        Kind::Queued(_, Stage::Listed | Stage::Cancelling)
+        | Kind::Blank
+        | Kind::Num
+        | Kind::Lower
+        | Kind::New
+        | Kind::Own
+        | Kind::View => Lesson::of(
             "the packet is the routine's own, and doesn't stand in the queue",
             QUEUES,
             "take it out",
@@ -227,7 +303,7 @@ fn not_unlinked(case: &Case<'_>, kind: Kind) -> Lesson {
 fn not_armed(case: &Case<'_>, kind: Kind, list: QueueName) -> Lesson {
     let about = case.about(case.register(), list);
     match kind {
-        Kind::New | Kind::Own if !matches!(case.rule, Rule::CancelState) => Lesson::of(
+        Kind::New | Kind::Own if case.rule != Rule::CancelState => Lesson::of(
             "the packet doesn't stand in the queue",
             QUEUES,
             "take it out: a packet is armed behind its `insert`, under the same lock",
@@ -247,13 +323,13 @@ fn not_armed(case: &Case<'_>, kind: Kind, list: QueueName) -> Lesson {
             "`disarm $R L` and `insert $R $Q` before it",
             about,
         ),
-        Kind::Queued(_, _) => Lesson::about(
+        Kind::Queued(_, Stage::Listed | Stage::Cancelling) => Lesson::about(
             "the packet is being cancelled",
             QUEUES,
             "take it out, and `unlink $R $Q`",
             about,
         ),
-        _ => Lesson::about(
+        Kind::Own | Kind::Blank | Kind::Num | Kind::Lower | Kind::View => Lesson::about(
             "the packet is the routine's own, and doesn't stand in the queue",
             QUEUES,
             "`insert $R $Q` before it",
@@ -264,22 +340,36 @@ fn not_armed(case: &Case<'_>, kind: Kind, list: QueueName) -> Lesson {
 
 /// The cancel routine is taken away of a packet that has none set.
 fn not_disarmed(case: &Case<'_>, kind: Kind) -> Lesson {
-    match (kind, case.filled_by(packet_of(case.instr))) {
-        (Kind::Queued(list, Stage::Listed), _) => of_listed(case, list),
-        (Kind::Queued(_, _), _) => Lesson::of(
+    match kind {
+        Kind::Queued(list, Stage::Listed) => of_listed(case, list),
+        Kind::Queued(_, Stage::Armed | Stage::Taken | Stage::Cancelling) => Lesson::of(
             "the packet is being cancelled, and its cancel routine isn't set any more",
             QUEUES,
             "take it out",
         ),
-        (Kind::Own, Some(Instr::Remove(_, queue, _))) if case.is_plain(*queue) => {
-            no_cancel_routine(*queue)
-        }
-        _ => Lesson::of(
-            "the packet is the routine's own: no cancel routine is set for it",
-            QUEUES,
-            "take it out",
-        ),
+        Kind::Own => of_own(case),
+        Kind::Blank | Kind::Num | Kind::Lower | Kind::New | Kind::View => never_set(),
     }
+}
+
+/// A packet of the routine's own is disarmed, which may have been taken off a queue without a
+/// cancel routine.
+fn of_own(case: &Case<'_>) -> Lesson {
+    if let Some(Instr::Remove(_, queue, _)) = case.filled_by(packet_of(case.instr))
+        && case.is_plain(*queue)
+    {
+        return no_cancel_routine(*queue);
+    }
+    never_set()
+}
+
+/// A packet is disarmed for which no cancel routine is set.
+fn never_set() -> Lesson {
+    Lesson::of(
+        "the packet is the routine's own: no cancel routine is set for it",
+        QUEUES,
+        "take it out",
+    )
 }
 
 /// A packet that stands in its queue is disarmed: before it was armed, or once more.
@@ -305,7 +395,7 @@ fn not_own(case: &Case<'_>, list: QueueName, stage: Stage) -> Lesson {
             "`dequeue $R` before it, and before `relc`",
             about,
         ),
-        (Stage::Cancelling, _) => Lesson::about(
+        (Stage::Cancelling, QueueName::Declared(_)) => Lesson::about(
             "the packet may still stand in queue $Q, so it isn't the cancel routine's own",
             QUEUES,
             if holds_guard(case, list) {
@@ -347,15 +437,21 @@ fn holds_guard(case: &Case<'_>, list: QueueName) -> bool {
 /// The rule on packets that a routine still has.
 pub(crate) fn dropped(case: &Case<'_>) -> Lesson {
     let source = "the Driver Kit on dispatch routines";
-    match case.instr {
-        Instr::Ret(_) if is_lent_still(case) => of_form(case),
-        Instr::Ret(form) => left_behind(case, form),
-        Instr::Clear(_) => Lesson::of(
+    match act_of(case.instr) {
+        Act::Return(form) if is_lent_still(case, &form) => of_form(case),
+        Act::Return(form) => left_behind(case, &form),
+        Act::Plain(Plain::Clear) => Lesson::of(
             "the register that is cleared still has a packet",
             source,
             "take it out: a register with a packet is emptied by handing the packet on",
         ),
-        _ => Lesson::of(
+        Act::Plain(Plain::Number | Plain::Move(_) | Plain::Loop(_) | Plain::End)
+        | Act::Look
+        | Act::Mark(_)
+        | Act::Lock(_)
+        | Act::Queue(_)
+        | Act::Device(_)
+        | Act::Send(_) => Lesson::of(
             "the register that is written still has a packet",
             source,
             "write another register, or finish with the packet first",
@@ -373,23 +469,39 @@ fn left_behind(case: &Case<'_>, form: &Return) -> Lesson {
         );
     };
     let kind = case.state().kinds.get(number).copied();
-    let dispatch = "the Driver Kit on dispatch routines";
-    match (kind, case.sort) {
-        (Some(Kind::Queued(list, _)), _) => being_cancelled(case.about(number, list), list),
-        (_, Sort::StartIo | Sort::Dpc) => of_started(case, number),
-        (Some(kind), Sort::Hold | Sort::Propagate) => of_completing(kind, form, number),
-        (_, Sort::Cancel) => lost(
+    if let Some(Kind::Queued(list, _)) = kind {
+        return being_cancelled(case.about(number, list), list);
+    }
+    let is_new = kind == Some(Kind::New);
+    match case.sort {
+        Sort::StartIo => of_started(
+            case,
+            number,
+            "`begin $R` before the return, or `complete` it and start the `next`",
+        ),
+        Sort::Dpc => of_started(
+            case,
+            number,
+            "start the `next` and `complete $R`, or `begin $R` again, before the return",
+        ),
+        Sort::Hold | Sort::Propagate => of_completing(is_new, form, number),
+        Sort::Cancel => lost(
             number,
             "the Driver Kit on cancel routines",
             "`complete $R CANCELLED` before the return",
         ),
-        (Some(Kind::New), _) => lost(
-            number,
-            dispatch,
-            "`complete $R` with the returned status, `pass` it on, or `mark` and `insert` it",
-        ),
-        _ => lost(number, dispatch, FINISH),
+        Sort::Dispatch => of_dispatched(is_new, number),
     }
+}
+
+/// A dispatch routine returns while it has a packet, with which it did nothing or something.
+fn of_dispatched(is_new: bool, number: usize) -> Lesson {
+    let mend = if is_new {
+        "`complete $R` with the returned status, `pass` it on, or `mark` and `insert` it"
+    } else {
+        FINISH
+    };
+    lost(number, "the Driver Kit on dispatch routines", mend)
 }
 
 /// The first register whose packet a return in this form leaves behind.
@@ -407,27 +519,23 @@ fn lost(number: usize, source: &'static str, mend: &'static str) -> Lesson {
     Lesson::about(why, source, mend, About::register(number))
 }
 
-/// A completion routine returns while it has a packet of a kind.
-fn of_completing(kind: Kind, form: &Return, number: usize) -> Lesson {
+/// A completion routine returns while it has a packet, which it was handed or took.
+fn of_completing(is_new: bool, form: &Return, number: usize) -> Lesson {
     let source = "the Driver Kit on IoCompletion routines and IoMarkIrpPending";
-    match (kind, form) {
-        (Kind::New, _) => Lesson::about(
+    if is_new {
+        return Lesson::about(
             "the routine stops the completion of a packet that it didn't keep",
             source,
             "`ret continue`, or `mark $R` and put it into a queue before `ret stop`",
             About::register(number),
-        ),
-        (_, Return::Stop) => lost(
-            number,
-            source,
-            "put it into a queue, under its lock, before the return",
-        ),
-        _ => lost(
-            number,
-            source,
-            "put it into a queue, under its lock, and `ret stop`",
-        ),
+        );
     }
+    let mend = if matches!(form, Return::Stop) {
+        "put it into a queue, under its lock, before the return"
+    } else {
+        "put it into a queue, under its lock, and `ret stop`"
+    };
+    lost(number, source, mend)
 }
 
 /// A cancel routine leaves its packet where it is.
@@ -451,20 +559,13 @@ fn being_cancelled(about: About, list: QueueName) -> Lesson {
     }
 }
 
-/// A StartIo or DPC routine returns while it has a packet.
-fn of_started(case: &Case<'_>, number: usize) -> Lesson {
+/// A StartIo or DPC routine returns while it has a packet, which is so mended where it has the
+/// token.
+fn of_started(case: &Case<'_>, number: usize, mend: &'static str) -> Lesson {
     let source = "the Driver Kit on IoStartPacket, IoStartNextPacket and StartIo routines";
-    match case.sort {
-        _ if !case.state().token => lost(number, source, FINISH),
-        Sort::StartIo => lost(
-            number,
-            source,
-            "`begin $R` before the return, or `complete` it and start the `next`",
-        ),
-        _ => lost(
-            number,
-            source,
-            "start the `next` and `complete $R`, or `begin $R` again, before the return",
-        ),
-    }
+    lost(
+        number,
+        source,
+        if case.state().token { mend } else { FINISH },
+    )
 }

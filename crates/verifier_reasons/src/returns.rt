@@ -1,34 +1,41 @@
 //! The rules on pending marks and on what a routine returns, in words.
 
+use crate::acts::{Act, Marking, Sending, Waiting, act_of};
 use crate::case::Case;
 use model::abs::{Duty, Kind};
-use model::instr::{Instr, Return};
+use model::instr::Return;
 use model::set::Sort;
 use verifier_names::{About, Lesson, sent_down};
 
 /// The rule on pending marks.
 pub(crate) fn of_marks(case: &Case<'_>) -> Lesson {
     let source = "Static Driver Verifier, MarkIrpPending; IoMarkIrpPending";
-    match case.instr {
-        Instr::Mark(_) => Lesson::of(
+    match act_of(case.instr) {
+        Act::Mark(Marking::Mark) => Lesson::of(
             "the packet was marked before",
             source,
             "take it out: a packet is marked once",
         ),
-        Instr::Pass(_) => passed_marked(case, source),
-        Instr::Complete(_, _) => Lesson::of(
+        Act::Send(Sending::Pass) => passed_marked(case, source),
+        Act::Send(Sending::Complete) => Lesson::of(
             "no packet is completed with STATUS_PENDING",
             source,
             "complete it with its final status",
         ),
-        Instr::Ret(returned) => of_returned(case, returned),
-        Instr::Begin(_) => Lesson::about(
+        Act::Return(returned) => of_returned(case, &returned),
+        Act::Device(Waiting::Begin) => Lesson::about(
             "the packet wasn't marked and started, and the routine has no token of a busy device",
             source,
             "`mark $R` and `start $R` instead",
             About::register(case.register()),
         ),
-        _ => Lesson::about(
+        Act::Mark(Marking::Look)
+        | Act::Send(Sending::Call(_))
+        | Act::Device(Waiting::Start | Waiting::Take | Waiting::Next | Waiting::Dequeue)
+        | Act::Plain(_)
+        | Act::Look
+        | Act::Lock(_)
+        | Act::Queue(_) => Lesson::about(
             "the packet wasn't marked before it is kept or started",
             source,
             "`mark $R` before it",
@@ -48,43 +55,48 @@ fn of_returned(case: &Case<'_>, returned: &Return) -> Lesson {
 
 /// A marked packet is passed on.
 fn passed_marked(case: &Case<'_>, source: &'static str) -> Lesson {
-    let why = "a marked packet is passed on in the same stack location";
-    match (case.sort, case.state().duty) {
-        (Sort::Dispatch, Duty::Pending) => Lesson::of(
-            why,
-            source,
-            "`call` it and `ret PENDING`, or don't mark it",
-        ),
-        (Sort::Dispatch, _) => Lesson::of(why, source, "`call` it"),
-        _ => sent_down(case.sort),
+    if !matches!(case.sort, Sort::Dispatch) {
+        return sent_down(case.sort);
     }
+    let mend = if case.state().duty == Duty::Pending {
+        "`call` it and `ret PENDING`, or don't mark it"
+    } else {
+        "`call` it"
+    };
+    Lesson::of(
+        "a marked packet is passed on in the same stack location",
+        source,
+        mend,
+    )
 }
 
 /// The rule on the status that a dispatch routine returns.
 fn of_status(case: &Case<'_>, returned: &Return) -> Lesson {
     let source = "Static Driver Verifier, MarkIrpPending; \"Returning STATUS_PENDING\"";
-    match (returned, case.state().duty) {
-        (_, Duty::Pending) => Lesson::of(
+    match case.state().duty {
+        Duty::Pending => Lesson::of(
             "the packet was marked, so another status than STATUS_PENDING is wrong",
             source,
             "`ret PENDING`",
         ),
-        (_, Duty::GivenDown) => owed_lower(
+        Duty::GivenDown => owed_lower(
             case,
             "the packet was sent down unmarked, so the lower driver's status is returned",
             source,
         ),
-        (Return::Lower(_), _) => Lesson::of(
-            "a lower driver's status is returned for a packet that wasn't sent down",
-            source,
-            "return the status that the packet is completed with",
-        ),
-        (_, Duty::Fresh) => Lesson::of(
+        Duty::Fresh | Duty::Finished | Duty::NoDuty if matches!(returned, Return::Lower(_)) => {
+            Lesson::of(
+                "a lower driver's status is returned for a packet that wasn't sent down",
+                source,
+                "return the status that the packet is completed with",
+            )
+        }
+        Duty::Fresh => Lesson::of(
             "STATUS_PENDING is returned for a packet that wasn't marked",
             source,
             "`mark` the packet and put it into a queue first, or complete it and return its status",
         ),
-        _ => Lesson::of(
+        Duty::Finished | Duty::NoDuty => Lesson::of(
             "STATUS_PENDING is returned for a packet that was completed and not marked",
             source,
             "`mark` the packet before it is completed, or return the status of its completion",
@@ -107,27 +119,29 @@ fn owed_lower(case: &Case<'_>, why: &'static str, source: &'static str) -> Lesso
 
 /// `ret lower` is given a register without the status that a lower driver returned.
 pub(crate) fn no_lower(case: &Case<'_>) -> Lesson {
+    if !matches!(case.sort, Sort::Dispatch) {
+        return of_form(case);
+    }
     let source = "the Driver Kit on IoCallDriver";
     let why = "`ret lower` takes the status that a lower driver returned, and it isn't there";
-    match (case.sort, case.state().duty) {
-        (Sort::Dispatch, Duty::Pending) => Lesson::of(
+    match case.state().duty {
+        Duty::Pending => Lesson::of(
             "the packet was marked, so STATUS_PENDING is returned, and no lower driver's status \
              is left",
             source,
             "`ret PENDING`",
         ),
-        (Sort::Dispatch, Duty::GivenDown) => owed_lower(case, why, source),
-        (Sort::Dispatch, Duty::Finished) => Lesson::of(
+        Duty::GivenDown => owed_lower(case, why, source),
+        Duty::Finished => Lesson::of(
             why,
             source,
             "return the status that the packet was completed with",
         ),
-        (Sort::Dispatch, _) => Lesson::of(
+        Duty::Fresh | Duty::NoDuty => Lesson::of(
             why,
             source,
             "`pass` or `call` the packet first, and name the register that it was in",
         ),
-        _ => of_form(case),
     }
 }
 
@@ -154,9 +168,10 @@ pub(crate) fn of_form(case: &Case<'_>) -> Lesson {
         Sort::Hold => Lesson::of(
             "a completion routine returns whether the completion goes on",
             source,
-            match case.state().duty {
-                Duty::Pending => "`ret stop`, since the packet was marked",
-                _ => "`ret continue`, since the packet wasn't marked",
+            if case.state().duty == Duty::Pending {
+                "`ret stop`, since the packet was marked"
+            } else {
+                "`ret continue`, since the packet wasn't marked"
             },
         ),
         Sort::StartIo => Lesson::of("a StartIo routine returns nothing", source, "`ret void`"),
@@ -171,7 +186,7 @@ fn returned_status(case: &Case<'_>, source: &'static str) -> Lesson {
     match case.state().duty {
         Duty::Pending => Lesson::of(why, source, "`ret PENDING`, since the packet was marked"),
         Duty::GivenDown => owed_lower(case, why, source),
-        _ => Lesson::of(
+        Duty::Fresh | Duty::Finished | Duty::NoDuty => Lesson::of(
             why,
             source,
             "`ret` with the status that the packet is completed with",
@@ -181,10 +196,7 @@ fn returned_status(case: &Case<'_>, source: &'static str) -> Lesson {
 
 /// Whether a hold routine returns in a form that isn't its sort's while it still has the packet
 /// that it was lent.
-pub(crate) fn is_lent_still(case: &Case<'_>) -> bool {
+pub(crate) fn is_lent_still(case: &Case<'_>, form: &Return) -> bool {
     let lent = case.state().kinds.iter().any(|kind| *kind == Kind::New);
-    match case.instr {
-        Instr::Ret(form) => matches!(case.sort, Sort::Hold) && lent && !fits(case.sort, form),
-        _ => false,
-    }
+    matches!(case.sort, Sort::Hold) && lent && !fits(case.sort, form)
 }

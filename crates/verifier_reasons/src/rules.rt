@@ -1,5 +1,6 @@
 //! The rules in words: why an instruction breaks one, where that is written, and how to mend it.
 
+use crate::acts::{Act, Marking, Sending, Waiting, act_of};
 use crate::case::Case;
 use crate::kinds::wrong_kind;
 use crate::locks::{lock_held, of_locks};
@@ -7,9 +8,12 @@ use crate::packets::{doubled, dropped, of_cancellation, of_guards};
 use crate::returns::{of_form, of_marks};
 use crate::tokens::{not_taken, of_token};
 use model::abs::{Kind, Rule, Settled};
-use model::instr::{Instr, Return};
+use model::instr::Return;
 use model::set::Sort;
-use verifier_names::{About, Lesson, lesson_of_code, of_devices, of_level, sent_down};
+use verifier_names::{
+    About, Difference, Lesson, malformed, no_lower_device, no_memory, of_level, of_meetings,
+    sent_down, stack_too_small, too_long, unreached,
+};
 
 /// What a rule says at an instruction, in the state that arrives there.
 pub fn lesson_of(case: &Case<'_>) -> Lesson {
@@ -26,50 +30,61 @@ pub fn lesson_of(case: &Case<'_>) -> Lesson {
         Rule::Token => of_token(case),
         Rule::Sort => of_sort(case),
         Rule::Completion => of_completion(case),
-        Rule::StackTooSmall | Rule::NoLower => of_devices(case.rule),
-        rule => lesson_of_code(rule, Some(case.instr)),
+        Rule::StackTooSmall => stack_too_small(),
+        Rule::NoLower => no_lower_device(),
+        Rule::Malformed => malformed(Some(case.instr)),
+        Rule::Unreachable => unreached(),
+        Rule::StatesDiffer => of_meetings(Some(case.instr), Difference::Others),
+        Rule::TooLong => too_long(),
+        Rule::Memory => no_memory(),
     }
 }
 
 /// The rule on sorts of routines.
 fn of_sort(case: &Case<'_>) -> Lesson {
     let source = "the Driver Kit on each sort of routine";
-    match case.instr {
-        Instr::Ret(_) => of_form(case),
-        Instr::Start(_) => Lesson::of(
+    match act_of(case.instr) {
+        Act::Return(_) => of_form(case),
+        Act::Device(Waiting::Start) => Lesson::of(
             "the driver has no StartIo routine",
             source,
             "name one with `startio`, or use a queue",
         ),
-        Instr::Dequeue(_) => Lesson::of(
+        Act::Device(Waiting::Dequeue) => Lesson::of(
             "the driver names no cancel routine for its device queue",
             source,
             "name one behind the StartIo routine on the `startio` line",
         ),
-        Instr::Take(_, _) => not_taken(),
-        _ => sent_down(case.sort),
+        Act::Device(Waiting::Take) => not_taken(),
+        Act::Device(Waiting::Begin | Waiting::Next)
+        | Act::Plain(_)
+        | Act::Look
+        | Act::Mark(_)
+        | Act::Lock(_)
+        | Act::Queue(_)
+        | Act::Send(_) => sent_down(case.sort),
     }
 }
 
 /// The rule on completion routines.
 fn of_completion(case: &Case<'_>) -> Lesson {
     let source = "the Driver Kit on IoCompletion routines and IoMarkIrpPending";
-    match *case.instr {
-        Instr::Ret(form) => of_return(case, form, source),
-        Instr::Call(_, Some(_)) if matches!(case.sort, Sort::Dispatch) => Lesson::about(
+    match act_of(case.instr) {
+        Act::Return(form) => of_return(case, form, source),
+        Act::Send(Sending::Call(true)) if matches!(case.sort, Sort::Dispatch) => Lesson::about(
             "an unmarked packet is sent down with a routine that may hold it",
             source,
             "`mark $R` before it, and `ret PENDING`",
             About::register(case.register()),
         ),
-        Instr::Complete(_, _) | Instr::Pass(_) | Instr::Call(_, _) => Lesson::of(
+        Act::Send(_) => Lesson::of(
             "a completion routine neither completes a packet nor sends it down",
             source,
             "take it out: let the completion go on, or hold the packet and finish it elsewhere",
         ),
-        Instr::IfPending(_, _) => of_look(case, source),
-        Instr::Mark(_) => of_carried_mark(case, source),
-        _ => Lesson::of(
+        Act::Mark(Marking::Look) => of_look(case, source),
+        Act::Mark(Marking::Mark) => of_carried_mark(case, source),
+        Act::Plain(_) | Act::Look | Act::Lock(_) | Act::Queue(_) | Act::Device(_) => Lesson::of(
             "the packet is on its way up, and the routine may only look at it",
             source,
             "take it out, and leave the packet to the drivers above",
@@ -79,18 +94,18 @@ fn of_completion(case: &Case<'_>) -> Lesson {
 
 /// Irp->PendingReturned is looked at twice, or in a routine that has no need to.
 fn of_look(case: &Case<'_>, source: &'static str) -> Lesson {
-    match case.sort {
-        Sort::Propagate => Lesson::of(
+    if matches!(case.sort, Sort::Propagate) {
+        return Lesson::of(
             "Irp->PendingReturned was looked at before",
             source,
             "take it out: look once, and `mark` at the label alone",
-        ),
-        _ => Lesson::of(
-            "only a `propagate` routine looks at Irp->PendingReturned",
-            source,
-            "take it out",
-        ),
+        );
     }
+    Lesson::of(
+        "only a `propagate` routine looks at Irp->PendingReturned",
+        source,
+        "take it out",
+    )
 }
 
 /// A completion routine marks a packet without having seen that it has to.
@@ -102,7 +117,7 @@ fn of_carried_mark(case: &Case<'_>, source: &'static str) -> Lesson {
             "`ifpending $R L` before it, so that it is marked at L alone",
             About::register(case.register()),
         ),
-        _ => Lesson::of(
+        Settled::NeedMark | Settled::Settled => Lesson::of(
             "the packet is marked where Irp->PendingReturned isn't set, or once more",
             source,
             "take it out: mark once, at the label of `ifpending` alone",
@@ -115,25 +130,25 @@ fn of_return(case: &Case<'_>, form: Return, source: &'static str) -> Lesson {
     let kinds = &case.state().kinds;
     let viewed = kinds.iter().position(|kind| *kind == Kind::View);
     let about = About::register(viewed.unwrap_or(0));
-    match (form, case.state().settled) {
-        (_, Settled::Open) => Lesson::about(
+    match case.state().settled {
+        Settled::Open => Lesson::about(
             "the completion routine doesn't look at Irp->PendingReturned",
             source,
             "`ifpending $R L` before it, and at L `mark $R` and `ret continue`",
             about,
         ),
-        (_, Settled::NeedMark) => Lesson::about(
+        Settled::NeedMark => Lesson::about(
             "Irp->PendingReturned was set, and the packet isn't marked",
             source,
             "`mark $R` before the return",
             about,
         ),
-        (Return::Stop, _) => Lesson::of(
+        Settled::Settled if matches!(form, Return::Stop) => Lesson::of(
             "the routine keeps a packet that it didn't mark",
             source,
             "`mark` it before `ret stop`",
         ),
-        _ => Lesson::of(
+        Settled::Settled => Lesson::of(
             "the routine lets the completion go on after it took the packet back",
             source,
             "`ret stop`",

@@ -1,5 +1,6 @@
 //! The rule on the token of a busy device, in words.
 
+use crate::acts::{Act, Waiting, act_of};
 use crate::case::{Case, Fact};
 use model::instr::Instr;
 use model::set::{QueueName, Sort};
@@ -8,8 +9,8 @@ use verifier_names::Lesson;
 /// The rule on the token: it was spent, was never there, or is still there at the end.
 pub(crate) fn of_token(case: &Case<'_>) -> Lesson {
     let source = "the Driver Kit on IoStartPacket, IoStartNextPacket and StartIo routines";
-    match (*case.instr, case.sort) {
-        (Instr::Ret(_), _) => Lesson::of(
+    match act_of(case.instr) {
+        Act::Return(_) => Lesson::of(
             "the device is left busy, and starts no packet any more",
             source,
             if case.set.has_cancel(case.driver, QueueName::DeviceQueue) {
@@ -18,13 +19,19 @@ pub(crate) fn of_token(case: &Case<'_>) -> Lesson {
                 "`next` before the return"
             },
         ),
-        (Instr::Take(_, _), Sort::Dpc) => Lesson::of(
+        Act::Device(Waiting::Take) if matches!(case.sort, Sort::Dpc) => Lesson::of(
             "the routine takes a second packet while it has the token",
             source,
             "start the `next` before it, or take it out",
         ),
-        (Instr::Take(_, _), _) => not_taken(),
-        _ => no_token(case, source),
+        Act::Device(Waiting::Take) => not_taken(),
+        Act::Device(Waiting::Start | Waiting::Begin | Waiting::Next | Waiting::Dequeue)
+        | Act::Plain(_)
+        | Act::Look
+        | Act::Mark(_)
+        | Act::Lock(_)
+        | Act::Queue(_)
+        | Act::Send(_) => no_token(case, source),
     }
 }
 
@@ -57,7 +64,7 @@ fn no_token(case: &Case<'_>, source: &'static str) -> Lesson {
             source,
             "`take` the current packet first",
         ),
-        _ => Lesson::of(
+        Sort::Dispatch | Sort::StartIo | Sort::Propagate | Sort::Hold | Sort::Cancel => Lesson::of(
             "a routine of this sort has no token of a busy device",
             source,
             "take it out: the device's StartIo and DPC routines start packets",

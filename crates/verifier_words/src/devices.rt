@@ -41,9 +41,10 @@ fn add_sizes(words: &mut Words, set: &DriverSet, stack: u8, lower: u8, instr: &I
     words.add_number(needed(under, instr) as u64);
     words.add(" is needed: ");
     words.add_number(under as u64);
-    words.add(match instr {
-        Instr::Call(_, _) => " for the device under it, and one for itself\n",
-        _ => " for the device under it\n",
+    words.add(if is_call(instr) {
+        " for the device under it, and one for itself\n"
+    } else {
+        " for the device under it\n"
     })
 }
 
@@ -57,23 +58,28 @@ pub(crate) fn add_queue_line(words: &mut Words, scene: &Scene<'_>, case: &Case<'
 
 /// Whether a device breaks a rule on devices where its driver sends a packet down.
 fn breaks(rule: Rule, set: &DriverSet, device: &Device, instr: &Instr) -> bool {
-    match (rule, device.lower) {
-        (Rule::NoLower, None) => true,
-        (Rule::StackTooSmall, Some(lower)) => match set.devices().get(lower as usize) {
-            Some(under) => device.stack < needed(under.stack, instr),
-            None => false,
-        },
-        _ => false,
+    let Some(lower) = device.lower else {
+        return rule == Rule::NoLower;
+    };
+    match set.devices().get(lower as usize) {
+        Some(under) => rule == Rule::StackTooSmall && device.stack < needed(under.stack, instr),
+        None => false,
     }
 }
 
 /// The stack locations that a packet needs: those of the device under it, and its own where it is
 /// sent down with `call`.
 fn needed(under: u8, instr: &Instr) -> u8 {
-    match instr {
-        Instr::Call(_, _) => under.saturating_add(1),
-        _ => under,
+    if is_call(instr) {
+        under.saturating_add(1)
+    } else {
+        under
     }
+}
+
+/// Whether an instruction sends a packet down in a location of its own.
+fn is_call(instr: &Instr) -> bool {
+    matches!(instr, Instr::Call(..))
 }
 
 /// A line that is sought among those of a text's drivers, queues and devices.

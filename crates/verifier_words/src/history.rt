@@ -3,9 +3,13 @@
 
 use crate::place::Scene;
 use model::instr::Instr;
+use model::set::Guard;
 use std::alloc::Global;
 use verifier_names::{add_lock, spin_number};
-use verifier_reasons::{Case, Fact, blank_register, is_held, lock_meant};
+use verifier_reasons::{
+    Act, Case, Fact, Locking, Plain, Queueing, Sending, Waiting, act_of, blank_register, is_held,
+    lock_meant,
+};
 use words::Words;
 
 /// Adds where the register went blank of which an instruction wants something, and why, where it
@@ -78,17 +82,24 @@ fn why_blank(instr: Option<&Instr>) -> &'static str {
     let Some(instr) = instr else {
         return "";
     };
-    match instr {
-        Instr::Complete(_, _) => ", since its packet was completed,",
-        Instr::Pass(_) | Instr::Call(_, _) => ", since its packet was sent down,",
-        Instr::Insert(_, _) => ", since its packet was put into the queue,",
-        Instr::Start(_) => ", since its packet was started,",
-        Instr::Begin(_) => ", since its packet was made the current one,",
-        Instr::Release(_) => ", since its packet was let go with the guard of its queue,",
-        Instr::Disarm(_, _) => ", since its packet is the cancel routine's,",
-        Instr::Move(_, _) => ", since what it had was moved to another register,",
-        Instr::Clear(_) => ", since it was cleared,",
-        _ => "",
+    match act_of(instr) {
+        Act::Send(Sending::Complete) => ", since its packet was completed,",
+        Act::Send(Sending::Pass | Sending::Call(_)) => ", since its packet was sent down,",
+        Act::Queue(Queueing::Insert(_)) => ", since its packet was put into the queue,",
+        Act::Queue(Queueing::Disarm) => ", since its packet is the cancel routine's,",
+        Act::Device(Waiting::Start) => ", since its packet was started,",
+        Act::Device(Waiting::Begin) => ", since its packet was made the current one,",
+        Act::Lock(Locking::Release(Guard::DeviceLock(_))) =>
+            ", since its packet was let go with the guard of its queue,",
+        Act::Plain(Plain::Move(_)) => ", since what it had was moved to another register,",
+        Act::Plain(Plain::Clear) => ", since it was cleared,",
+        Act::Queue(Queueing::Remove(_) | Queueing::Unlink(_) | Queueing::Arm(_))
+        | Act::Device(Waiting::Take | Waiting::Next | Waiting::Dequeue)
+        | Act::Lock(Locking::Acquire(_) | Locking::Release(Guard::CancelLock))
+        | Act::Plain(Plain::Number | Plain::Loop(_) | Plain::End)
+        | Act::Look
+        | Act::Mark(_)
+        | Act::Return(_) => "",
     }
 }
 
@@ -113,10 +124,10 @@ pub(crate) fn add_loops(
 /// Adds an instruction, if it begins a loop, with how often the loop's body counts. The bodies of
 /// the loops round it count so often.
 fn add_loop(words: &mut Words, scene: &Scene<'_>, open: &mut Vec<u64>, instr: &Instr, at: u16) {
-    match instr {
-        Instr::Loop(turns) => {
+    match act_of(instr) {
+        Act::Plain(Plain::Loop(turns)) => {
             let around = open.last().copied().unwrap_or(1);
-            let times = around.saturating_mul(turns.count() as u64);
+            let times = around.saturating_mul(turns as u64);
             if open.push(times).is_err() {
                 words.lacks = true;
             }
@@ -124,9 +135,16 @@ fn add_loop(words: &mut Words, scene: &Scene<'_>, open: &mut Vec<u64>, instr: &I
             words.add_number(times);
             add_end(words, scene, " times the body of the loop ", at)
         }
-        Instr::End => {
+        Act::Plain(Plain::End) => {
             let _ = open.pop();
         }
-        _ => {}
+        Act::Plain(Plain::Number | Plain::Move(_) | Plain::Clear)
+        | Act::Look
+        | Act::Mark(_)
+        | Act::Lock(_)
+        | Act::Queue(_)
+        | Act::Device(_)
+        | Act::Send(_)
+        | Act::Return(_) => {}
     }
 }

@@ -1,7 +1,8 @@
 //! What is known of registers and locks, in words.
 
 use model::abs::{Abs, Duty, Kind, Settled, Stage};
-use verifier_names::Names;
+use verifier_names::{Difference, Names};
+use verifier_reasons::is_packet;
 use words::Words;
 
 /// Adds what a state says: each register that isn't blank, the locks that are held, what is owed,
@@ -124,6 +125,19 @@ pub(crate) fn add_differences(words: &mut Words, names: Names<'_, '_>, one: &Abs
         "  whether the mark was carried up\n",
     ));
     words.add(where_so(one.token != other.token, "  the token of the busy device\n"))
+}
+
+/// What differs between two states that do: packets and what is owed for them, or nothing of that.
+pub(crate) fn kind_of_difference(one: &Abs, other: &Abs) -> Difference {
+    let packets = one.kinds.iter().zip(other.kinds.iter()).any(|(first, second)| {
+        *first != *second && (is_packet(*first) || is_packet(*second))
+    });
+    let owed = one.duty != other.duty || one.settled != other.settled || one.token != other.token;
+    if packets || owed {
+        Difference::Packets
+    } else {
+        Difference::Others
+    }
 }
 
 /// Adds the locks that are held in one of two states alone.

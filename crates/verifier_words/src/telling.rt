@@ -12,16 +12,17 @@ use crate::history::{add_blanking, add_lock_history, add_loops, add_token};
 use crate::path::add_path;
 use crate::place::Scene;
 use crate::refused::set_refused;
-use crate::state::{add_differences, add_state};
+use crate::state::{add_differences, add_state, kind_of_difference};
 use asm_places::{RoutineSource, routine_source};
 use driver_set::DriverSet;
-use model::abs::{Refusal, Rule};
+use model::abs::{Abs, Refusal, Rule};
+use model::instr::Instr;
 use model::set::{Driver, Routine, Sort};
 use std::alloc::{AllocError, Global};
 use verifier_evidence::{Evidence, Path, Subject, evidence_at, evidence_of};
 use verifier_names::{
-    ListedPart, Origin, SetNames, Source, lesson_of_code, listed_devices, listed_routine,
-    not_entered,
+    Lesson, ListedPart, Origin, SetNames, Source, listed_devices, listed_routine, malformed,
+    not_entered, of_meetings, too_long, unreached,
 };
 use verifier_reasons::{Case, lesson_of};
 use words::Words;
@@ -313,38 +314,54 @@ pub(crate) fn add_reasons(
     evidence: &Evidence,
 ) {
     match evidence {
-        Evidence::NotEntered => {
-            let driver = set.drivers().get(scene.refusal.driver as usize);
-            not_entered(driver, scene.refusal.routine).add(words, scene.names())
-        }
+        Evidence::NotEntered => add_not_entered(words, scene, set),
         Evidence::Broken(path) => add_breach(words, scene, set, routine, path),
-        _ => {
-            add_cause(alloc, words, scene, routine, evidence);
-            add_why(words, scene, routine)
+        Evidence::Misplaced => add_lesson(words, scene, malformed(instr_at(scene, routine))),
+        Evidence::Unreached => add_lesson(words, scene, unreached()),
+        Evidence::TooLong(path, count) => add_length(alloc, words, scene, routine, path, *count),
+        Evidence::Differing(one, other) | Evidence::Unlike(one, other) => {
+            add_meeting(words, scene, routine, &one.last.state, &other.last.state)
         }
     }
 }
 
-/// Adds the loops that make a path too long, or what differs between two paths.
-fn add_cause(
+/// Adds a lesson.
+fn add_lesson(words: &mut Words, scene: &Scene<'_>, lesson: Lesson) {
+    lesson.add(words, scene.names())
+}
+
+/// Adds why the routine can't be entered.
+fn add_not_entered(words: &mut Words, scene: &Scene<'_>, set: &DriverSet) {
+    let driver = set.drivers().get(scene.refusal.driver as usize);
+    add_lesson(words, scene, not_entered(driver, scene.refusal.routine))
+}
+
+/// Adds the loops that make a path so long, and that it may not be.
+fn add_length(
     alloc: Global,
     words: &mut Words,
     scene: &Scene<'_>,
     routine: &Routine,
-    evidence: &Evidence,
+    path: &Path,
+    count: u32,
 ) {
-    match evidence {
-        Evidence::TooLong(path, count) => {
-            words.add("up to there: ");
-            words.add_number(*count as u64);
-            words.add(" instructions, by these loops:\n");
-            add_loops(alloc, words, scene, routine.code.as_slice(), path.last.at)
-        }
-        Evidence::Differing(one, other) | Evidence::Unlike(one, other) => {
-            add_differences(words, scene.names(), &one.last.state, &other.last.state)
-        }
-        _ => {}
-    }
+    words.add("up to there: ");
+    words.add_number(count as u64);
+    words.add(" instructions, by these loops:\n");
+    add_loops(alloc, words, scene, routine.code.as_slice(), path.last.at);
+    add_lesson(words, scene, too_long())
+}
+
+/// Adds what differs between the states that arrive along two paths, and that it may not.
+fn add_meeting(words: &mut Words, scene: &Scene<'_>, routine: &Routine, one: &Abs, other: &Abs) {
+    add_differences(words, scene.names(), one, other);
+    let lesson = of_meetings(instr_at(scene, routine), kind_of_difference(one, other));
+    add_lesson(words, scene, lesson)
+}
+
+/// The instruction at the place of a refusal, if there is one.
+fn instr_at<'r>(scene: &Scene<'_>, routine: &'r Routine) -> Option<&'r Instr> {
+    routine.code.as_slice().get(scene.refusal.at as usize)
 }
 
 /// Adds what the instruction at the end of a path breaks there, and what led to it.
@@ -385,7 +402,17 @@ fn add_details(words: &mut Words, scene: &Scene<'_>, case: &Case<'_>) {
         }
         Rule::Token => add_token(words, scene, case),
         Rule::StackTooSmall | Rule::NoLower => add_devices(words, scene, case),
-        _ => {}
+        Rule::Malformed
+        | Rule::Unreachable
+        | Rule::StatesDiffer
+        | Rule::MarkIrpPending
+        | Rule::Level
+        | Rule::CancelState
+        | Rule::Dropped
+        | Rule::Sort
+        | Rule::Completion
+        | Rule::TooLong
+        | Rule::Memory => {}
     }
 }
 
@@ -395,10 +422,4 @@ fn add_arrival(words: &mut Words, scene: &Scene<'_>, title: &str, path: &Path) {
     add_path(words, scene, path);
     words.add("what is known where it arrives:\n");
     add_state(words, scene.names(), &path.last.state)
-}
-
-/// Adds why a rule on the code of a routine is broken at the place.
-fn add_why(words: &mut Words, scene: &Scene<'_>, routine: &Routine) {
-    let instr = routine.code.as_slice().get(scene.refusal.at as usize);
-    lesson_of_code(scene.refusal.rule, instr).add(words, scene.names())
 }
