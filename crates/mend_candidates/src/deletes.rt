@@ -1,12 +1,12 @@
 //! Deletions, alone or with what belongs to the instruction.
 
-use crate::acts::{Act, act_of};
 use crate::gathered::Gathered;
 use crate::scene::Scene;
 use absstate::Rule;
 use driver_set::{Instr, Return};
 use mend_changes::Change;
 use mend_reading::Manner;
+use mend_reading::acts::{Act, act_of};
 use mend_reading::form::{are_pair, form_of};
 use model::status::Status;
 
@@ -236,7 +236,7 @@ fn weight(instr: &Instr) -> u32 {
         Act::Packet | Act::Waiting => 120,
         Act::Leave => 100,
         Act::Mark | Act::Lock => 70,
-        Act::Number => 30,
+        Act::Number | Act::Loop | Act::End => 30,
     }
 }
 

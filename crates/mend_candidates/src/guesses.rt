@@ -1,10 +1,10 @@
 //! Statuses and returns that most likely stand at a place.
 
-use crate::acts::leaves;
 use crate::growing::Growing;
 use crate::scene::{Scene, registers};
 use absstate::{Abs, Kind};
 use driver_set::{Instr, Return, Sort};
+use mend_reading::acts::leaves;
 use model::status::Status;
 
 /// An instruction that may stand at a place, and what it costs more than others.
@@ -136,8 +136,8 @@ impl<'a> Scene<'a> {
 /// The status with which a packet is most likely completed before a return.
 fn status_of(form: Return) -> Status {
     match form {
-        Return::WithStatus(Status::Pending) => Status::Success,
-        Return::WithStatus(status) => status,
-        Return::Lower(_) | Return::Continue | Return::Stop | Return::Void => Status::Success,
+        Return::WithStatus(status) if status != Status::Pending => status,
+        Return::WithStatus(_) | Return::Lower(_) | Return::Continue | Return::Stop | Return::Void =>
+            Status::Success,
     }
 }

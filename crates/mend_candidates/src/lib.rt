@@ -2,7 +2,6 @@
 //! each costs.
 #![tactic(auto)]
 
-pub mod acts;
 mod deletes;
 pub mod gathered;
 pub mod growing;
@@ -10,7 +9,6 @@ mod guesses;
 mod inserts;
 mod moves;
 mod prior;
-mod queues;
 mod replaces;
 pub mod scene;
 

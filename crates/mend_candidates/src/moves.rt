@@ -1,13 +1,13 @@
 //! Moves of one instruction.
 
-use crate::acts::{leaves, number_put};
 use crate::gathered::Gathered;
 use crate::scene::Scene;
 use absstate::Rule;
 use driver_set::Instr;
 use mend_changes::{Change, Landing};
 use mend_reading::Manner;
-use mend_reading::operands::interfere;
+use mend_reading::acts::leaves;
+use mend_reading::operands::{interfere, number_put};
 
 /// How many instructions one is moved over, at most.
 const FARTHEST: u16 = 14;

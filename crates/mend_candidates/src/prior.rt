@@ -1,9 +1,9 @@
 //! How likely an insertion is, by the rule that is broken.
 
-use crate::acts::{Act, act_of, leaves};
 use crate::scene::Scene;
 use absstate::Rule;
 use driver_set::{Instr, Register};
+use mend_reading::acts::{Act, act_of, leaves};
 use mend_reading::form::same_lock;
 use mend_reading::operands::names;
 
@@ -129,9 +129,14 @@ impl<'a> Scene<'a> {
         }
         match act_of(&self.bad) {
             Act::Waiting => matches!(*instr, Instr::AcquireCancel),
-            Act::Number | Act::Leave | Act::Mark | Act::Lock | Act::Packet | Act::Down => {
-                matches!(*instr, Instr::Acquire(_))
-            }
+            Act::Number
+            | Act::Loop
+            | Act::End
+            | Act::Leave
+            | Act::Mark
+            | Act::Lock
+            | Act::Packet
+            | Act::Down => { matches!(*instr, Instr::Acquire(_)) }
         }
     }
 

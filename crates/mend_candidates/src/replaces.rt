@@ -3,14 +3,13 @@
 use crate::gathered::Gathered;
 use crate::growing::Growing;
 use crate::guesses::{Guess, add_guess};
-use crate::queues::{queue_of, with_queue};
 use crate::scene::{Scene, registers};
 use absstate::{Rule, Tracked};
 use driver_set::{Instr, Register, Return, Sort, SpinLock, Turns};
 use mend_changes::{Change, with_label};
 use mend_reading::Manner;
 use mend_reading::form::form_of;
-use mend_reading::operands::{names, registers_of, with_first, with_second};
+use mend_reading::operands::{names, queue_of, registers_of, with_first, with_queue, with_second};
 use std::alloc::Global;
 
 impl<'a> Scene<'a> {
@@ -85,7 +84,7 @@ impl<'a> Scene<'a> {
             | Instr::Remove(..)
             | Instr::Unlink(..)
             | Instr::Arm(..)
-            | Instr::Dequeue(_) => self.guess_queues(instr, list),
+            | Instr::Dequeue(_) => self.guess_queues(&instr, list),
             Instr::Const(..)
             | Instr::Move(..)
             | Instr::Clear(_)
@@ -238,12 +237,12 @@ impl<'a> Scene<'a> {
     }
 
     /// Guesses other queues.
-    fn guess_queues(&self, instr: Instr, list: &mut Growing<Guess>) {
-        if let Instr::Unlink(r, _) = instr {
+    fn guess_queues(&self, instr: &Instr, list: &mut Growing<Guess>) {
+        if let Instr::Unlink(r, _) = *instr {
             add_guess(list, Instr::Dequeue(r), 150);
         }
         for q in 0..self.queues() {
-            if let Some(other) = with_queue(&instr, q) {
+            if let Some(other) = with_queue(*instr, q) {
                 let cost = if matches!(other, Instr::Unlink(..)) {
                     140
                 } else {

@@ -1,9 +1,9 @@
 //! What the candidates for a fault of a routine are made from.
 
-use crate::acts::leaves;
 use crate::gathered::Gathered;
 use absstate::{Abs, Kind, Rule};
 use driver_set::{Driver, Instr, Register, Return, SpinLock};
+use mend_reading::acts::leaves;
 use mend_reading::reading::{Fault, Reading, Subject};
 use model::limits::{REGISTERS, SPIN_LOCKS};
 use model::status::Status;

@@ -3,12 +3,12 @@
 use absstate::{Abs, Kind, Rule};
 use driver_set::{Instr, Register, SpinLock, Turns};
 use mend_candidates::Gathered;
-use mend_candidates::acts::{leaves, number_put};
 use mend_candidates::scene::{Scene, registers};
 use mend_changes::{Change, Landing, with_label};
 use mend_reading::Manner;
+use mend_reading::acts::leaves;
 use mend_reading::form::{are_pair, same_lock};
-use mend_reading::operands::is_register;
+use mend_reading::operands::{is_register, number_put};
 
 /// Several edits that belong together, for a scene.
 #[derive(Clone, Copy)]

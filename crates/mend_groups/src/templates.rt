@@ -76,7 +76,9 @@ impl<'a> Templates<'a> {
             }
             Kind::New => self.add_kept(at, landing, state, (register, true, lines), out),
             Kind::Own => self.add_kept(at, landing, state, (register, false, lines), out),
-            Kind::Blank | Kind::Num | Kind::Lower | Kind::Queued(..) => {}
+            Kind::Queued(QueueName::Declared(_), Stage::Armed | Stage::Taken)
+            | Kind::Queued(QueueName::DeviceQueue, _) => {}
+            Kind::Blank | Kind::Num | Kind::Lower => {}
         }
     }
 
