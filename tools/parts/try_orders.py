@@ -1,8 +1,8 @@
 #!/usr/bin/env python3
 """tools/try orders [--seed N] [--sets N] [--runs N] [PROGRAM]: what `explain` says of the locks of random accepted sets (3,000, if
 no number is given), each with random runs that are told (10 a set). Of each driver the edges are found here anew, from its text:
-where there are none in a cycle, an order has to be told in which each is taken, and of a set whose drivers all have one no run may
-have threads in a ring; else a cycle of the driver's edges is told, each with its line, and none of its cycles is shorter. Where
+where there are none in a cycle, an order of exactly their locks has to be told in which each is taken, or that no two are held at
+once, and of a set whose drivers all have one no run may have threads in a ring; else a cycle of the driver's edges is told, each with its line, and none of its cycles is shorter. Where
 threads stand in a ring, the set has to be one with a cycle. The last line counts."""
 import argparse, itertools, os, random, re, subprocess, sys, tempfile
 
@@ -11,6 +11,7 @@ CANCEL = 'the system cancel spin lock'
 LOCKS = ['l%d' % n for n in range(8)] + [CANCEL]
 MAJORS = 'READ', 'WRITE', 'CONTROL'
 ORDER = re.compile(r'driver (\w+) takes its locks in this order: (.*)\.')
+APART = re.compile(r'driver (\w+) holds no two locks at once\.')
 CYCLE = re.compile(r'driver (\w+) takes its locks in a cycle: (.*?)\. Threads')
 EDGE = re.compile(r'(\w+) acquires (l\d|%s) at line (\d+) while it holds (l\d|%s)' % (CANCEL, CANCEL))
 NO_RING = 'No threads ever wait for each other in a ring'
@@ -88,6 +89,8 @@ def wrong_order(driver, told):
     for held, taken, _, line in driver.edges:
         if held not in order or taken not in order or order.index(held) >= order.index(taken):
             return 'line %d takes %s under %s' % (line, taken, held)
+    if sorted(order) != sorted({lock for held, taken, _, _ in driver.edges for lock in (held, taken)}):
+        return 'an order of other locks than those of which one is taken under another'
     return None
 
 def wrong_cycle(driver, told):
@@ -103,10 +106,13 @@ def wrong_cycle(driver, told):
 
 def wrong_words(drivers, told):
     """What is wrong with what is told of the drivers' locks, or None."""
-    orders, cycles = dict(ORDER.findall(told)), dict(CYCLE.findall(told))
+    orders, cycles, apart = dict(ORDER.findall(told)), dict(CYCLE.findall(told)), APART.findall(told)
     for driver in drivers:
         wrong = None
-        if driver.name in cycles:
+        takes = any(line.startswith('acquire ') or line == 'acqc' for line in driver.lines)
+        if (driver.name in apart) != (takes and not driver.edges):
+            wrong = 'whether two locks are held at once is told otherwise than the routines do'
+        elif driver.name in cycles:
             wrong = wrong_cycle(driver, cycles[driver.name])
         elif driver.name in orders or driver.edges:
             wrong = wrong_order(driver, orders.get(driver.name, ''))

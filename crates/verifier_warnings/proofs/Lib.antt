@@ -1,2 +1,3 @@
 pub mod Cycles
 pub mod Warned
+pub mod Telling

@@ -28,6 +28,10 @@ abbrev pub TellsOrders : Set → List ℕ → Type 0
 TellsOrders set words =
     (HasLockOrders set × EndsWith words no_ring) ⊎ (HasCycle set × EndsWith words advice)
 
+-- what is told last of a set
+abbrev pub TellsEnd : Set → List ℕ → Type 0
+TellsEnd set end = (HasLockOrders set × (end ≡ no_ring)) ⊎ (HasCycle set × EndsWith end advice)
+
 -- an order is a cycle
 abbrev pub IsCycle : LockOrder → Type 0
 IsCycle (Cycle edges) = ⊤
@@ -38,10 +42,10 @@ abbrev pub IsCycleAmong : List LockOrder → Type 0
 IsCycleAmong orders =
     (driver : ℕ) × (order : LockOrder) × (slice_get orders driver ≡ Some order) × IsCycle order
 
--- some words, behind which those on the cycles among some orders stand, if there are any
-abbrev pub TellsCycles : List LockOrder → List ℕ → Bool → Type 0
-TellsCycles orders words true = IsCycleAmong orders × EndsWith words advice
-TellsCycles orders words false = AreAllOrdered orders
+-- behind some words the cycles among some orders are told, if there are any
+abbrev pub TellsCycles : List LockOrder → List ℕ → List ℕ → Bool → Type 0
+TellsCycles orders old new true = IsCycleAmong orders × EndsWith new advice
+TellsCycles orders old new false = AreAllOrdered orders × (new ≡ old)
 
 -- behind some words the cycle of a driver is told, if it has one
 abbrev pub TellsCycle : LockOrder → List ℕ → List ℕ → Bool → Type 0
@@ -51,5 +55,5 @@ TellsCycle order old new false = IsOrdered order × (new ≡ old)
 -- the last words on some orders
 abbrev pub EndsRightly : List LockOrder → List ℕ → Type 0
 EndsRightly orders words =
-    (AreAllOrdered orders × EndsWith words no_ring)
+    (AreAllOrdered orders × (words ≡ no_ring))
     ⊎ (IsCycleAmong orders × EndsWith words advice)

@@ -4,6 +4,7 @@
 //! writes nothing itself.
 #![tactic(auto)]
 
+mod lines;
 mod orders;
 mod roll;
 mod warning;

@@ -1,21 +1,19 @@
 //! The orders in which the drivers of an accepted set take their locks, in words.
 
-ghost use Rattle.std.specs.Prelude.{IfOk, OnOk, string_bytes};
+ghost use Rattle.std.specs.Prelude.{◌++◌, IfOk, OnOk, string_bytes};
 ghost use Rattle.model.specs.Typable.{IsTypable};
+ghost use Rattle.verifier_warnings.specs.Lines.{TellsEach};
 ghost use Rattle.verifier_warnings.specs.Orders.{EndsRightly, EndsWith, TellsCycle, TellsCycles};
 ghost use Rattle.verifier_warnings.specs.Orders.{TellsOrders, advice};
 
+use crate::lines::{add_lock, order_lines};
 use crate::roll::{add_roll, add_sort};
 use asm_places::{outline, routine_source};
 use driver_set::DriverSet;
-use model::instr::Instr;
-use model::set::{Driver, Guard};
 use std::alloc::{AllocError, Global};
 use text::Spot;
 use verifier::Accepted;
-use verifier_names::{
-    Names, Origin, SetNames, Source, add_lines, add_lock, add_title, listed_routine, spin_number,
-};
+use verifier_names::{Names, Origin, SetNames, Source, add_lines, add_title, listed_routine};
 use verifier_orders::{Edge, LockOrder, orders_of};
 use words::Words;
 
@@ -78,8 +76,9 @@ impl Quoted<'_> {
     }
 }
 
-/// What is told of an accepted set: its routines, a line each; the orders in which its drivers take
-/// their locks; and the cycles in which they do, with the lines that make them.
+/// What is told of an accepted set: its routines, a line each; of each driver that takes locks the
+/// order of those that it takes two at once, or that it takes no two so; and the cycles in which
+/// drivers take their locks, with the lines that make them.
 ///
 /// # Errors
 ///
@@ -91,99 +90,45 @@ pub fn acceptance(
 ) -> Result<String, AllocError>
     ensures typable { IsTypable accepted.now }
     ensures orders { IfOk result (λ words. TellsOrders accepted.now (string_bytes words)) }
+    ensures each { IfOk result (λ words. TellsEach accepted.now (string_bytes words)) }
 {
-    let set = accepted.set();
     let orders = orders_of(alloc, accepted)?;
-    let telling = Telling::of(alloc, origin, set)?;
-    let mut prose = ordered_words(alloc, &telling, orders.as_slice())?;
-    add_end(alloc, &mut prose, &telling, orders.as_slice())?;
-    Ok(prose)
+    let telling = Telling::of(alloc, origin, accepted.set())?;
+    let lines = order_lines(alloc, accepted, &telling, orders.as_slice())?;
+    let end = end_words(alloc, &telling, orders.as_slice())?;
+    routines_before(alloc, &telling, lines.as_str(), end.as_str())
 }
 
-/// The routines of a set, and the order of each driver that has one.
-fn ordered_words(
+/// The routines of a set, a line each, and other words behind them.
+fn routines_before(
     alloc: Global,
     telling: &Telling<'_, '_>,
-    orders: &[LockOrder],
-) -> Result<String, AllocError> {
+    lines: &str,
+    end: &str,
+) -> Result<String, AllocError>
+    ensures { IfOk result (λ words. EndsWith (string_bytes words) (lines.now ++ end.now)) }
+{
     let mut words = Words::new(alloc);
     add_roll(&mut words, &telling.names, telling.set);
-    add_orders(&mut words, telling, orders);
+    words.add(lines);
+    words.add(end);
     words.finish()
 }
 
-/// Adds the order of each driver that has one.
-fn add_orders(words: &mut Words, telling: &Telling<'_, '_>, orders: &[LockOrder]) {
-    for (number, driver) in telling.set.drivers().iter().enumerate() {
-        if let Some(LockOrder::Ordered(locks)) = orders.get(number) {
-            let names = telling.names(number as u8);
-            add_order(words, names, number as u8, driver, locks.as_slice());
-        }
-    }
-}
-
-/// Adds the locks that a driver's routines take, in their order; if they take none, nothing.
-fn add_order(
-    words: &mut Words,
-    names: Names<'_, '_>,
-    number: u8,
-    driver: &Driver,
-    locks: &[Guard],
-) {
-    let mut told = false;
-    for lock in locks {
-        let spin = spin_number(lock);
-        if takes(driver, spin) {
-            if told {
-                words.add(", ");
-            } else {
-                names.add_driver(words, number);
-                words.add(" takes its locks in this order: ");
-            }
-            add_lock(words, spin);
-            told = true;
-        }
-    }
-    words.add(if told { ".\n" } else { "" })
-}
-
-/// Whether a routine of a driver takes the spin lock of a number, or the system cancel spin lock.
-fn takes(driver: &Driver, spin: Option<usize>) -> bool {
-    driver
-        .routines
-        .as_slice()
-        .iter()
-        .any(|routine| is_taken(routine.code.as_slice(), spin))
-}
-
-/// Whether one of some instructions takes it.
-fn is_taken(code: &[Instr], spin: Option<usize>) -> bool {
-    code.iter().any(|instr| is_taken_by(instr, spin))
-}
-
-/// Whether an instruction takes it.
-fn is_taken_by(instr: &Instr, spin: Option<usize>) -> bool {
-    match instr {
-        Instr::Acquire(lock) => spin == Some(lock.index()),
-        Instr::AcquireCancel => spin.is_none(),
-        _ => false,
-    }
-}
-
-/// Adds the cycle of each driver that has one, or, if none has, that no threads wait in a ring.
-fn add_end(
+/// The cycle of each driver that has one, or, if none has, that no threads wait in a ring.
+fn end_words(
     alloc: Global,
-    prose: &mut String,
     telling: &Telling<'_, '_>,
     orders: &[LockOrder],
-) -> Result<(), AllocError>
-    ensures { OnOk result (EndsRightly orders.now (string_bytes prose.new)) }
+) -> Result<String, AllocError>
+    ensures { IfOk result (λ end. EndsRightly orders.now (string_bytes end)) }
 {
-    let some = add_cycles(alloc, prose, telling, orders)?;
-    if some {
-        return Ok(());
+    let mut end = String::new(alloc);
+    let some = add_cycles(alloc, &mut end, telling, orders)?;
+    if !some {
+        end.push_str(NO_RING)?;
     }
-    prose.push_str(NO_RING)
+    Ok(end)
 }
 
 /// Adds the cycle of each driver that has one, and answers whether there is any.
@@ -193,7 +138,8 @@ fn add_cycles(
     telling: &Telling<'_, '_>,
     orders: &[LockOrder],
 ) -> Result<bool, AllocError>
-    ensures { IfOk result (λ some. TellsCycles orders.now (string_bytes prose.new) some) }
+    ensures { IfOk result
+        (λ some. TellsCycles orders.now (string_bytes prose.old) (string_bytes prose.new) some) }
 {
     let mut some = false;
     let mut number: u8 = 0;
@@ -359,11 +305,11 @@ fn between(place: usize, last: usize) -> &'static str {
 fn add_edge(words: &mut Words, names: Names<'_, '_>, edge: &Edge, line: Option<u64>) {
     names.add_routine_alone(words, edge.routine);
     words.add(" acquires ");
-    add_lock(words, spin_number(&edge.taken));
+    add_lock(words, &edge.taken);
     words.add(" at");
     add_line(words, line, edge.at);
     words.add(" while it holds ");
-    add_lock(words, spin_number(&edge.held))
+    add_lock(words, &edge.held)
 }
 
 /// Adds the number of a line, or of a position that has none.
