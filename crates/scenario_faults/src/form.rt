@@ -5,7 +5,7 @@ use crate::operand::{DEVICE_STATES, Operand, PACKET_STATES};
 use interleave_texts::faulty::FaultyLine;
 use scenario_expected::expectation::MAX_LISTED;
 use text::class::is;
-use text_faults::forms::is_one_of;
+use text_faults::forms::{self, form_among, is_one_of};
 
 /// What has to stand behind the first words of a line.
 #[derive(Clone, Copy)]
@@ -56,40 +56,69 @@ pub(crate) const LINES: [&str; 11] = [
 
 pub(crate) const STEPS: [&str; 6] = ["run", "step", "interrupt", "dpc", "startio", "cancel"];
 
+/// What stands behind the word of a line; of a step and a cancel the last may be left out.
+static WORDED: [forms::Form<Operand>; 5] = [
+    forms::Form {
+        word: "step",
+        operands: &[Operand::Thread, Operand::Steps],
+        open: true,
+    },
+    forms::Form {
+        word: "interrupt",
+        operands: &[Operand::Device],
+        open: false,
+    },
+    forms::Form {
+        word: "dpc",
+        operands: &[Operand::Thread, Operand::Device],
+        open: false,
+    },
+    forms::Form {
+        word: "startio",
+        operands: &[Operand::Thread, Operand::Device],
+        open: false,
+    },
+    forms::Form {
+        word: "cancel",
+        operands: &[Operand::Thread, Operand::Packet, Operand::Level],
+        open: true,
+    },
+];
+
+/// The same of the words that stand on the first place alone.
+static BLOCKS: [forms::Form<Operand>; 2] = [
+    forms::Form {
+        word: "repeat",
+        operands: &[Operand::Times],
+        open: false,
+    },
+    forms::Form {
+        word: "end",
+        operands: &[],
+        open: false,
+    },
+];
+
 /// The form of a line that begins with such a word, from a place on.
 pub(crate) fn form_of(line: &FaultyLine<'_>, place: usize) -> Option<Form> {
     let behind = place.saturating_add(1);
     let word = line.token(place)?;
-    if let Some(equals) = line.token(behind) {
-        if is(equals, b"=") {
-            return Some(of(place, &ISSUE, 7));
-        }
+    if has(line, behind, b"=") {
+        Some(of(place, &ISSUE, 7))
+    } else if is(word, b"run") {
+        Some(run_form(line, behind))
+    } else {
+        let form = worded(word, place)?;
+        Some(of(behind, form.operands, form.least()))
     }
-    if is(word, b"run") {
-        return Some(run_form(line, behind));
-    }
-    let operands = worded(word, place)?;
-    let open = is(word, b"step") || is(word, b"cancel");
-    Some(of(
-        behind,
-        operands,
-        operands.len().saturating_sub(open as usize),
-    ))
 }
 
-/// What stands behind a word at a place, if lines begin with it there; of a step and a cancel the
-/// last may be left out.
-fn worded(word: &[u8], place: usize) -> Option<&'static [Operand]> {
-    let operands: &'static [Operand] = match word {
-        b"step" => &[Operand::Thread, Operand::Steps],
-        b"interrupt" => &[Operand::Device],
-        b"dpc" | b"startio" => &[Operand::Thread, Operand::Device],
-        b"cancel" => &[Operand::Thread, Operand::Packet, Operand::Level],
-        b"repeat" if place == 0 => &[Operand::Times],
-        b"end" if place == 0 => &[],
-        _ => return None,
-    };
-    Some(operands)
+/// What stands behind a word at a place, if lines begin with it there.
+fn worded(word: &[u8], place: usize) -> Option<&'static forms::Form<Operand>> {
+    match form_among(WORDED.as_slice(), word) {
+        None if place == 0 => form_among(BLOCKS.as_slice(), word),
+        form => form,
+    }
 }
 
 const ISSUE: [Operand; 7] = [
@@ -123,13 +152,15 @@ fn listing(first: usize, operands: &'static [Operand]) -> Form {
 
 /// The form of `run` from a place on.
 fn run_form(line: &FaultyLine<'_>, place: usize) -> Form {
-    let Some(_until) = line.token(place.saturating_add(1)) else {
-        return of(place, &[Operand::Runner], 1);
-    };
-    match line.token(place.saturating_add(2)) {
-        Some(b"line") => of(place, &TO_LINE, 4),
-        Some(b"release") => of(place, &TO_RELEASE, 4),
-        _ => of(place, &[Operand::Thread, Operand::Until, Operand::Spot], 3),
+    let kind = place.saturating_add(2);
+    if line.token(place.saturating_add(1)).is_none() {
+        of(place, &[Operand::Runner], 1)
+    } else if has(line, kind, b"line") {
+        of(place, &TO_LINE, 4)
+    } else if has(line, kind, b"release") {
+        of(place, &TO_RELEASE, 4)
+    } else {
+        of(place, &[Operand::Thread, Operand::Until, Operand::Spot], 3)
     }
 }
 
@@ -163,18 +194,33 @@ pub(crate) fn bound_form(place: usize) -> Form {
 
 /// The form of what stands behind `expect`, if there is anything.
 pub(crate) fn expect_form(line: &FaultyLine<'_>) -> Option<Form> {
-    let name = line.token(1)?;
-    match (name, line.token(2)) {
-        (b"clean" | b"accepted", _) => Some(of(2, &[], 0)),
-        (b"bug", _) => Some(of(2, &[Operand::BugCheck], 1)),
-        (b"thread", _) => Some(thread_form(line)),
-        (_, Some(state)) if is_one_of(state, &DEVICE_STATES) => Some(device_form(state)),
-        (_, Some(b"of")) => Some(of_form(line)),
-        (b"cancel", Some(b"lock")) => Some(owner_form(line)),
-        _ if is_list(line, 1) => Some(list_form(line)),
-        (b"refused", None) => Some(of(2, &REFUSED, 4)),
-        (b"refused", Some(word)) if !is_one_of(word, &PACKET_STATES) => Some(of(2, &REFUSED, 4)),
-        _ => Some(packet_form(line)),
+    let word = line.token(1)?;
+    Some(if is(word, b"bug") {
+        of(2, &[Operand::BugCheck], 1)
+    } else if is(word, b"clean") || is(word, b"accepted") {
+        of(2, &[], 0)
+    } else if is(word, b"thread") {
+        thread_form(line)
+    } else {
+        part_form(word, line)
+    })
+}
+
+/// The form of what is said of a device or of what it has, of a packet, or of the set.
+fn part_form(word: &[u8], line: &FaultyLine<'_>) -> Form {
+    let state = line.token(2).unwrap_or(&[]);
+    if is_one_of(state, &DEVICE_STATES) {
+        device_form(state)
+    } else if is(state, b"of") {
+        of_form(line)
+    } else if is(word, b"cancel") && is(state, b"lock") {
+        owner_form(line)
+    } else if is_list(line, 1) {
+        list_form(line)
+    } else if is(word, b"refused") && !is_one_of(state, &PACKET_STATES) {
+        of(2, &REFUSED, 4)
+    } else {
+        packet_form(line)
     }
 }
 
@@ -187,15 +233,25 @@ const REFUSED: [Operand; 4] = [
 
 /// The form of what is said of a thread.
 fn thread_form(line: &FaultyLine<'_>) -> Form {
-    match (line.token(3), line.token(4)) {
-        (Some(b"at"), Some(b"line")) => of(2, &AT_LINE, 4),
-        (Some(b"at"), _) => of(
+    if has(line, 3, b"at") {
+        at_form(line)
+    } else if has(line, 3, b"waiting") && line.token(4).is_some() {
+        of(2, &WAITING_FOR, 5)
+    } else {
+        of(2, &[Operand::Thread, Operand::ThreadState], 2)
+    }
+}
+
+/// The same where it is said that the thread is at an instruction.
+fn at_form(line: &FaultyLine<'_>) -> Form {
+    if has(line, 4, b"line") {
+        of(2, &AT_LINE, 4)
+    } else {
+        of(
             2,
             &[Operand::Thread, Operand::ThreadState, Operand::Spot],
             3,
-        ),
-        (Some(b"waiting"), Some(_for)) => of(2, &WAITING_FOR, 5),
-        _ => of(2, &[Operand::Thread, Operand::ThreadState], 2),
+        )
     }
 }
 
@@ -216,13 +272,19 @@ const WAITING_FOR: [Operand; 5] = [
 
 /// The form of what is said of what a device has.
 fn of_form(line: &FaultyLine<'_>) -> Form {
-    match line.token(4) {
-        Some(b"is") => of(1, &CELL_IS, 5),
-        Some(b"free") => of(1, &LOCK_OWNED, 4),
-        Some(b"owned") => of(1, &LOCK_OWNED, 7),
-        Some(b"empty") => of(1, &QUEUE_EMPTY, 4),
-        Some(b"has") => listing(1, &QUEUE_HAS),
-        _ => of(1, &HAS_STATE, 4),
+    let state = line.token(4).unwrap_or(&[]);
+    if is(state, b"is") {
+        of(1, &CELL_IS, 5)
+    } else if is(state, b"free") {
+        of(1, &LOCK_OWNED, 4)
+    } else if is(state, b"owned") {
+        of(1, &LOCK_OWNED, 7)
+    } else if is(state, b"empty") {
+        of(1, &QUEUE_EMPTY, 4)
+    } else if is(state, b"has") {
+        listing(1, &QUEUE_HAS)
+    } else {
+        of(1, &HAS_STATE, 4)
     }
 }
 
@@ -268,9 +330,10 @@ const HAS_STATE: [Operand; 4] = [
 
 /// The form of what is said of the system cancel spin lock, behind its name.
 fn owner_form(line: &FaultyLine<'_>) -> Form {
-    match line.token(3) {
-        Some(b"owned") => of(3, &OWNED, 4),
-        _ => of(3, &[Operand::LockState], 1),
+    if has(line, 3, b"owned") {
+        of(3, &OWNED, 4)
+    } else {
+        of(3, &[Operand::LockState], 1)
     }
 }
 
@@ -283,9 +346,10 @@ const OWNED: [Operand; 4] = [
 
 /// The form of what is said of a start list or a device queue, behind its name.
 fn list_form(line: &FaultyLine<'_>) -> Form {
-    match line.token(5) {
-        Some(b"has") => listing(3, &LIST_HAS),
-        _ => of(3, &[Operand::Of, Operand::Device, Operand::ListState], 3),
+    if has(line, 5, b"has") {
+        listing(3, &LIST_HAS)
+    } else {
+        of(3, &[Operand::Of, Operand::Device, Operand::ListState], 3)
     }
 }
 
@@ -310,31 +374,57 @@ fn device_form(state: &[u8]) -> Form {
 
 /// The form of what is said of a packet.
 fn packet_form(line: &FaultyLine<'_>) -> Form {
-    match line.token(2) {
-        Some(b"topped") => topped_form(line),
-        Some(b"in") if is_list(line, 3) => of(1, &IN_LIST, 6),
-        Some(b"in") => of(1, &IN_QUEUE, 5),
-        Some(b"current") => of(1, &CURRENT_ON, 4),
-        Some(b"held") => of(1, &HELD_BY, 4),
-        _ => of(1, &IN_STATE, 2),
+    let state = line.token(2).unwrap_or(&[]);
+    if is(state, b"topped") {
+        topped_form(line)
+    } else if is(state, b"in") {
+        in_form(line)
+    } else if is(state, b"current") {
+        of(1, &CURRENT_ON, 4)
+    } else if is(state, b"held") {
+        of(1, &HELD_BY, 4)
+    } else {
+        of(1, &IN_STATE, 2)
     }
 }
 
 /// The form of what is said of a packet that has topped out.
 fn topped_form(line: &FaultyLine<'_>) -> Form {
-    match (line.token(3), line.token(4)) {
-        (Some(b"information"), _) => of(1, &TOPPED_WITH, 4),
-        (Some(_status), Some(_word)) => of(1, &TOPPED_AS, 5),
-        (Some(_status), None) => of(1, &TOPPED_OUT, 3),
-        (None, _) => of(1, &IN_STATE, 2),
+    if has(line, 3, b"information") {
+        of(1, &TOPPED_WITH, 4)
+    } else {
+        match line.tokens.len() {
+            0..=3 => of(1, &IN_STATE, 2),
+            4 => of(1, &TOPPED_OUT, 3),
+            _ => of(1, &TOPPED_AS, 5),
+        }
+    }
+}
+
+/// The form of what is said of a packet in a list.
+fn in_form(line: &FaultyLine<'_>) -> Form {
+    if is_list(line, 3) {
+        of(1, &IN_LIST, 6)
+    } else {
+        of(1, &IN_QUEUE, 5)
     }
 }
 
 /// Whether a start list or a device queue is named at a place.
 fn is_list(line: &FaultyLine<'_>, place: usize) -> bool {
-    match (line.token(place), line.token(place.saturating_add(1))) {
-        (Some(b"start"), Some(b"list")) | (Some(b"device"), Some(b"queue")) => true,
-        _ => false,
+    let behind = place.saturating_add(1);
+    if has(line, place, b"start") {
+        has(line, behind, b"list")
+    } else {
+        has(line, place, b"device") && has(line, behind, b"queue")
+    }
+}
+
+/// Whether a word stands at a place.
+fn has(line: &FaultyLine<'_>, place: usize, word: &[u8]) -> bool {
+    match line.token(place) {
+        Some(token) => is(token, word),
+        None => false,
     }
 }
 

@@ -242,6 +242,21 @@ impl Operand {
     /// The words among which one stands there, or may be meant.
     pub(crate) fn choices(self) -> &'static [&'static str] {
         match self {
+            Operand::LockState => &["free", "owned"],
+            Operand::ListState => &["empty", "has"],
+            Operand::ListWord => &["start", "list", "device", "queue"],
+            Operand::HasState => &HAS_STATES,
+            Operand::ThreadState => &THREAD_STATES,
+            Operand::DeviceState => &DEVICE_STATES,
+            Operand::PacketState => &PACKET_STATES,
+            Operand::TopOut | Operand::Status => &STATUSES,
+            _ => self.only_choice(),
+        }
+    }
+
+    /// The same where one word alone may stand there.
+    fn only_choice(self) -> &'static [&'static str] {
+        match self {
             Operand::Issue => &["issue"],
             Operand::Until => &["until"],
             Operand::Line => &["line"],
@@ -258,14 +273,6 @@ impl Operand {
             Operand::By => &["by"],
             Operand::On => &["on"],
             Operand::At => &["at"],
-            Operand::LockState => &["free", "owned"],
-            Operand::ListState => &["empty", "has"],
-            Operand::ListWord => &["start", "list", "device", "queue"],
-            Operand::HasState => &HAS_STATES,
-            Operand::ThreadState => &THREAD_STATES,
-            Operand::DeviceState => &DEVICE_STATES,
-            Operand::PacketState => &PACKET_STATES,
-            Operand::TopOut | Operand::Status => &STATUSES,
             _ => &[],
         }
     }

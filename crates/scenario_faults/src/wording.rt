@@ -56,30 +56,56 @@ fn add_ended(words: &mut Words, opened: bool) {
 
 /// Adds the same of a line behind the first.
 fn add_misplaced(words: &mut Words, line: &FaultyLine<'_>, known: &Known<'_>) {
-    match line.word() {
-        b"threads" => {
-            add_at_fault(words, b"threads", ", which stands on the first line alone");
-            add_expected(words, BEGINNINGS)
+    match why_misplaced(line, known) {
+        Some(Misplaced { why, expected }) => {
+            add_at_fault(words, line.word(), why);
+            add_expected(words, expected)
         }
-        b"expect" => match expect_form(line) {
+        None => add_misformed(words, line, known),
+    }
+}
+
+/// Why a line may not stand where it does, and what may.
+struct Misplaced {
+    why: &'static str,
+    expected: &'static str,
+}
+
+/// The same of a line behind the first, if it has a form.
+fn why_misplaced(line: &FaultyLine<'_>, known: &Known<'_>) -> Option<Misplaced> {
+    let word = line.word();
+    if is(word, b"threads") {
+        Some(Misplaced {
+            why: ", which stands on the first line alone",
+            expected: BEGINNINGS,
+        })
+    } else if is(word, b"repeat") && is_block(line, known) {
+        Some(Misplaced {
+            why: ", which may not stand before the `end` of another",
+            expected: END,
+        })
+    } else if is(word, b"end") && line.token(1).is_none() {
+        Some(Misplaced {
+            why: ", before which no `repeat` is open",
+            expected: BEGINNINGS,
+        })
+    } else {
+        None
+    }
+}
+
+/// Adds why a line behind the first has no form, or a number out of its range.
+fn add_misformed(words: &mut Words, line: &FaultyLine<'_>, known: &Known<'_>) {
+    let word = line.word();
+    if is(word, b"expect") {
+        match expect_form(line) {
             Some(form) => add_unfit(words, line, known, form),
             None => add_short(words, EXPECTED),
-        },
-        b"together" => add_misjoined(words, line, known),
-        b"may" => add_misstep(words, line, known, 1),
-        b"repeat" if is_block(line, known) => {
-            add_at_fault(
-                words,
-                b"repeat",
-                ", which may not stand before the `end` of another",
-            );
-            add_expected(words, END)
         }
-        b"end" if line.token(1).is_none() => {
-            add_at_fault(words, b"end", ", before which no `repeat` is open");
-            add_expected(words, BEGINNINGS)
-        }
-        _ => add_misstep(words, line, known, 0),
+    } else if is(word, b"together") {
+        add_misjoined(words, line, known)
+    } else {
+        add_misstep(words, line, known, is(word, b"may") as usize)
     }
 }
 
@@ -120,23 +146,26 @@ fn add_misstep(words: &mut Words, line: &FaultyLine<'_>, known: &Known<'_>, plac
 /// Adds a word at a place with which no step begins, or that there is none.
 fn add_no_step(words: &mut Words, word: Option<&[u8]>, place: usize) {
     match word {
-        Some(b"issue") => {
-            add_at_fault(words, b"issue", ", whose packet has no name");
-            add_remedy(
-                words,
-                "write a name and `=` before it, as `a = issue 0 d0 READ 7`",
-            )
-        }
-        Some(word) if place > 0 => {
-            add_unwanted(words, word, GRANTED);
-            add_nearest(words, word, &STEPS)
-        }
-        Some(word) => {
-            add_at_fault(words, word, ", with which no line begins");
-            add_expected(words, BEGINNINGS);
-            add_nearest(words, word, &LINES)
-        }
+        Some(word) => add_unknown(words, word, place),
         None => add_short(words, GRANTED),
+    }
+}
+
+/// Adds a word at a place with which no step begins.
+fn add_unknown(words: &mut Words, word: &[u8], place: usize) {
+    if is(word, b"issue") {
+        add_at_fault(words, b"issue", ", whose packet has no name");
+        add_remedy(
+            words,
+            "write a name and `=` before it, as `a = issue 0 d0 READ 7`",
+        )
+    } else if place > 0 {
+        add_unwanted(words, word, GRANTED);
+        add_nearest(words, word, &STEPS)
+    } else {
+        add_at_fault(words, word, ", with which no line begins");
+        add_expected(words, BEGINNINGS);
+        add_nearest(words, word, &LINES)
     }
 }
 
