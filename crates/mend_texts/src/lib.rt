@@ -12,6 +12,7 @@ mod page;
 mod reasons;
 mod rendering;
 mod rows;
+mod said;
 pub mod sentences;
 mod tables;
 mod texts;

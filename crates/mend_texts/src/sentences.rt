@@ -2,8 +2,9 @@
 
 use crate::label::{Label, add_bytes, add_label};
 use crate::reasons::reason;
+use crate::said::{Said, said_by};
 use asm_line::status_text;
-use driver_set::{Instr, Return};
+use driver_set::Instr;
 use model::abs::Rule;
 use std::alloc::{AllocError, Global};
 use words::Words;
@@ -133,33 +134,25 @@ fn add_reason(words: &mut Words, rule: Rule) {
 ///
 /// When memory runs out.
 pub fn guessed(alloc: Global, instr: Instr) -> Result<Option<String>, AllocError> {
-    match guess_in(&instr) {
-        Some(guess) => Ok(Some(guess_words(alloc, guess, instr)?)),
-        None => Ok(None),
-    }
-}
-
-/// What may be a guess in an instruction.
-fn guess_in(instr: &Instr) -> Option<&'static str> {
-    match *instr {
-        Instr::Complete(..) | Instr::Ret(Return::WithStatus(_)) => Some("the status "),
-        Instr::Const(..) => Some("the number "),
-        Instr::Loop(_) => Some("the number of turns"),
-        Instr::JumpIfZero(..) | Instr::JumpIfLess(..) => Some("the condition"),
-        _ => None,
-    }
-}
-
-/// A guess, with the status or the number that it is.
-fn guess_words(alloc: Global, guess: &str, instr: Instr) -> Result<String, AllocError> {
     let mut words = Words::new(alloc);
-    words.add(guess);
-    match instr {
-        Instr::Complete(_, status) | Instr::Ret(Return::WithStatus(status)) => {
+    add_guess(&mut words, said_by(&instr));
+    let guess = words.finish()?;
+    Ok(Some(guess).filter(|guess| !guess.is_empty()))
+}
+
+/// Adds what may be a guess: a status or a number with what it is.
+fn add_guess(words: &mut Words, said: Said) {
+    match said {
+        Said::Status(status) => {
+            words.add("the status ");
             words.add(status_text(status))
         }
-        Instr::Const(_, number) => words.add_number(number as u64),
-        _ => {}
+        Said::Number(number) => {
+            words.add("the number ");
+            words.add_number(number as u64)
+        }
+        Said::Turns => words.add("the number of turns"),
+        Said::Condition => words.add("the condition"),
+        Said::Queue(_) | Said::Routine(_) | Said::Nothing => {}
     }
-    words.finish()
 }

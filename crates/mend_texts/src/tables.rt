@@ -142,7 +142,7 @@ fn spot_of(page: &Page<'_>, edit: &Edit) -> Option<Spot> {
         Change::StartIo(_) => return startio_spot(page, edit.driver, 1),
         Change::Stack(device, _) => (Thing::Device(device), 3),
         Change::Lower(device, _) => (Thing::Device(device), 4),
-        _ => return None,
+        Change::Insert(..) | Change::Delete | Change::Replace(_) | Change::Move(..) => return None,
     };
     Some(Spot {
         index: page.line_of(thing)?,
@@ -193,7 +193,7 @@ fn word_of(alloc: Global, page: &Page<'_>, edit: &Edit) -> Result<String, AllocE
         }
         Change::Stack(_, stack) => word.add_number(stack as u64),
         Change::Lower(_, lower) => add_device(&mut word, page, lower),
-        _ => {}
+        Change::Insert(..) | Change::Delete | Change::Replace(_) | Change::Move(..) => {}
     }
     word.finish()
 }

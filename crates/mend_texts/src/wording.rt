@@ -1,6 +1,7 @@
 //! Instructions written with the names of a text.
 
 use crate::label::{Label, add_bytes, add_label};
+use crate::said::{Said, said_by};
 use asm_line::Entry;
 use driver_set::{Instr, QueueName};
 use std::alloc::{AllocError, Global};
@@ -32,18 +33,40 @@ pub fn instruction_text(
     let mut listed = String::new(alloc);
     Entry::Step(None, instr).write(&mut listed)?;
     let mut prose = Words::new(alloc);
-    let mut lines = Lines::of(listed.as_bytes());
-    let mut words = match lines.next() {
-        Some(line) => Tokens::of(line),
-        None => Tokens::of(&[]),
-    };
+    if let Some(line) = Lines::of(listed.as_bytes()).next() {
+        add_words(&mut prose, names, &instr, label, line)
+    }
+    prose.finish()
+}
+
+/// Adds the words of an instruction's line, one after another.
+fn add_words(
+    prose: &mut Words,
+    names: Names<'_, '_>,
+    instr: &Instr,
+    label: Option<Label<'_>>,
+    line: &[u8],
+) {
+    let count = count_of(line);
+    let mut words = Tokens::of(line);
     let mut index: usize = 0;
     while let Some(word) = words.next() {
         prose.add(if index > 0 { " " } else { "" });
-        add_word(&mut prose, names, name_at(&instr, index), label, word);
-        index = index.saturating_add(1);
+        let next = index.saturating_add(1);
+        let named = name_at(instr, index, next == count);
+        add_word(prose, names, named, label, word);
+        index = next;
     }
-    prose.finish()
+}
+
+/// How many words a line has.
+fn count_of(line: &[u8]) -> usize {
+    let mut words = Tokens::of(line);
+    let mut count: usize = 0;
+    while let Some(_word) = words.next() {
+        count = count.saturating_add(1);
+    }
+    count
 }
 
 /// Adds a word, or the name that stands for it.
@@ -65,22 +88,20 @@ fn add_word(
     }
 }
 
-/// What the word of an index names.
-fn name_at(instr: &Instr, index: usize) -> Named {
-    match (instr, index) {
-        (Instr::Insert(_, queue), 2)
-        | (Instr::Unlink(_, queue), 2)
-        | (Instr::Arm(_, queue), 2)
-        | (Instr::Remove(_, queue, _), 2) => Named::Queue(*queue),
-        (Instr::Call(_, Some(routine)), 2) => Named::Routine(*routine),
-        (Instr::Jump(_), 1)
-        | (Instr::JumpIfZero(..), 2)
-        | (Instr::Disarm(..), 2)
-        | (Instr::IfCancel(..), 2)
-        | (Instr::Take(..), 2)
-        | (Instr::IfPending(..), 2)
-        | (Instr::JumpIfLess(..), 3)
-        | (Instr::Remove(..), 3) => Named::Label,
-        _ => Named::Nothing,
+/// What a word names: the last of a jump is its label, and a queue or a routine stands behind the
+/// register.
+fn name_at(instr: &Instr, index: usize, is_last: bool) -> Named {
+    if is_last && instr.label().is_some() {
+        return Named::Label;
+    }
+    if index != 2 {
+        return Named::Nothing;
+    }
+    match said_by(instr) {
+        Said::Queue(number) => Named::Queue(number),
+        Said::Routine(number) => Named::Routine(number),
+        Said::Status(_) | Said::Number(_) | Said::Turns | Said::Condition | Said::Nothing => {
+            Named::Nothing
+        }
     }
 }

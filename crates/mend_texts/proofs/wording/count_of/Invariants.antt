@@ -1,5 +1,5 @@
 use Rattle.std.proofs.Common.{length}
-use Rattle.mend_texts.proofs.wording.instruction_text.Given as goal
+use Rattle.mend_texts.proofs.wording.count_of.Given as goal
 
 abbrev pub decreases-loop-word : goal.decreases-loop-word
 decreases-loop-word l = length l.words
