@@ -1,7 +1,7 @@
 //! What instructions do, as far as rules are told by it. Each instruction is named here, and the
 //! words go by groups of them.
 
-use model::instr::{Instr, Register, Return};
+use model::instr::{Instr, Return};
 use model::set::{Guard, QueueName};
 
 /// What an instruction does.
@@ -24,8 +24,8 @@ pub enum Act {
 pub enum Plain {
     /// Numbers are made or used, or it jumps.
     Number,
-    /// What a register has is moved to this one.
-    Move(Register),
+    /// What a register has is moved to the one of this number.
+    Move(usize),
     Clear,
     /// A loop begins that turns so often.
     Loop(u16),
@@ -89,7 +89,7 @@ pub fn act_of(instr: &Instr) -> Act {
         | Instr::Store(..)
         | Instr::LoadPaged(..)
         | Instr::StorePaged(..) => Act::Plain(Plain::Number),
-        Instr::Move(to, _) => Act::Plain(Plain::Move(to)),
+        Instr::Move(to, _) => Act::Plain(Plain::Move(to.index())),
         Instr::Clear(_) => Act::Plain(Plain::Clear),
         Instr::Loop(turns) => Act::Plain(Plain::Loop(turns.count())),
         Instr::End => Act::Plain(Plain::End),

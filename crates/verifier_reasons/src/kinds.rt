@@ -86,12 +86,24 @@ fn lack_of(instr: &Instr, state: &Abs) -> Lack {
     match wants_of(instr) {
         Wanted::Lower(r) => Lack::Lower(r),
         Wanted::Number(r) => Lack::Number(r),
-        Wanted::Numbers(r, s) => Lack::Number(if is_number(state, r) { s } else { r }),
-        Wanted::PacketAndNumber(packet, number) if is_packet(kind_of(state, packet)) => {
-            Lack::Number(number)
-        }
-        Wanted::Packet(r) | Wanted::PacketAndNumber(r, _) => Lack::Packet(r),
+        Wanted::Numbers(r, s) => lack_of_numbers(state, r, s),
+        Wanted::PacketAndNumber(packet, number) => lack_of_both(state, packet, number),
+        Wanted::Packet(r) => Lack::Packet(r),
         Wanted::Nothing => Lack::Packet(Register::FIRST),
+    }
+}
+
+/// What is lacking of two numbers.
+fn lack_of_numbers(state: &Abs, one: Register, other: Register) -> Lack {
+    Lack::Number(if is_number(state, one) { other } else { one })
+}
+
+/// What is lacking of a packet and a number.
+fn lack_of_both(state: &Abs, packet: Register, number: Register) -> Lack {
+    if is_packet(kind_of(state, packet)) {
+        Lack::Number(number)
+    } else {
+        Lack::Packet(packet)
     }
 }
 

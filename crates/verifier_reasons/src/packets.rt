@@ -34,7 +34,7 @@ pub(crate) fn doubled(case: &Case<'_>) -> Lesson {
             "the register is blank: what it had was moved to another one",
             source,
             "name the register that it was moved to, $R",
-            About::register(to.index()),
+            About::register(to),
         ),
         Act::Queue(
             Queueing::Insert(_) | Queueing::Remove(_) | Queueing::Unlink(_) | Queueing::Arm(_),
