@@ -1,5 +1,5 @@
 -- Where none of the threads that a run of an accepted set has is busy, no thread is.
-use Rattle.std.proofs.Common.{◌≡◌, ◌<◌, ◌≤◌, ℕ, arith, false, inl, inr, length, List, None, Option, refl, subst, sym}
+use Rattle.std.proofs.Common.{◌≡◌, ◌<◌, ℕ, arith, false, inl, inr, length, List, None, Option, refl, subst, sym}
 use Rattle.std.proofs.lemmas.Bool.{cases_lt}
 use Rattle.std.proofs.lemmas.Option.{slice_get_past}
 use Rattle.std.specs.Prelude.{option_map, slice_get}

@@ -1,11 +1,10 @@
 -- The one submitter of a script's commands.
-use Rattle.std.proofs.Common.{◌≡◌, ℕ, zero, suc, ◌+◌, ◌<◌, List, [], ◌∷◌, ap, arith, get_or, length, refl, subst, sym}
+use Rattle.std.proofs.Common.{◌≡◌, ◌∙◌, ℕ, zero, suc, ◌+◌, ◌<◌, List, [], ◌∷◌, ap, arith, get_or, length, refl, subst, sym}
 use Rattle.std.specs.Prelude.{slice_set}
 use Rattle.std.proofs.lemmas.List.Sums.{sum_by-cons}
 use Rattle.std.proofs.lemmas.Option.{slice_get-get_or}
 use Rattle.model.specs.History.{NamedCommand}
-use Rattle.intake.specs.declared.limits.TheConstants.{SHARES}
-use Rattle.intake.specs.Ends.{AreNewSubmitters, AreSubmittersOf, IsNewSubmitter, SubmitterState, TakerState, submitter_shares, taker_shares, weigh_put, weigh_taken}
+use Rattle.intake.specs.Ends.{AreNewSubmitters, AreSubmittersOf, IsNewSubmitter, SubmitterState, TakerState, submitter_shares, weigh_put, weigh_taken}
 use Rattle.intake.specs.Lists.{weigh}
 use Rattle.workers_script.proofs.TakerLists.{AreOfPut}
 
@@ -38,30 +37,31 @@ submitter_kept queue xs s one of_queue =
     alone (suc k) d within = absurd (omega (arith, within))
 
 -- and has its share
-pub shares_kept : (xs : List SubmitterState) (s after : SubmitterState) (ts us : List TakerState)
-    → length xs ≡ 1 → s ≡ get_or xs 0 s → after.share ≡ s.share
-    → taker_shares us ≡ taker_shares ts → submitter_shares xs + taker_shares ts ≡ SHARES
-    → submitter_shares (slice_set xs 0 after) + taker_shares us ≡ SHARES
-shares_kept xs s after ts us one is same takers all =
+pub share_kept : (xs : List SubmitterState) (s after : SubmitterState) → length xs ≡ 1
+    → s ≡ get_or xs 0 s → after.share ≡ s.share
+    → submitter_shares (slice_set xs 0 after) ≡ submitter_shares xs
+share_kept xs s after one is same =
     let now = ap submitter_shares (set_one xs after one) in
     let before = ap submitter_shares (all_one xs s one) in
     let now_is = sum_by-cons (λ (x : SubmitterState). x.share) after [] in
     let before_is = sum_by-cons (λ (x : SubmitterState). x.share) (get_or xs 0 s) [] in
     let share = ap (λ (x : SubmitterState). x.share) is in
-    omega (arith, now, before, now_is, before_is, share, same, takers, all)
+    omega (arith, now, before, now_is, before_is, share, same)
 
--- what takers took is among what it put
-pub of_put : (xs : List SubmitterState) (s : SubmitterState) (ts : List TakerState)
-    → length xs ≡ 1
+-- what it put is all that was put
+pub weigh_one : (h : NamedCommand → ℕ) (xs : List SubmitterState) (s : SubmitterState)
+    → length xs ≡ 1 → weigh_put h (slice_set xs 0 s) ≡ weigh h s.put
+weigh_one h xs s one =
+    omega (
+      arith,
+      ap (weigh_put h) (set_one xs s one),
+      sum_by-cons (λ (x : SubmitterState). weigh h x.put) s [],
+    )
+
+-- what takers took is among what was put
+pub of_put : (put : List NamedCommand) (xs : List SubmitterState) (ts : List TakerState)
+    → ((h : NamedCommand → ℕ) → weigh_put h xs ≡ weigh h put)
     → ((rest : List NamedCommand) × ((h : NamedCommand → ℕ)
-    → weigh_put h (slice_set xs 0 s) ≡ weigh_taken h ts + weigh h rest))
-    → AreOfPut s.put ts
-of_put xs s ts one among = (
-  among.0,
-  λ h. omega (
-    arith,
-    among.1 h,
-    ap (weigh_put h) (set_one xs s one),
-    sum_by-cons (λ (x : SubmitterState). weigh h x.put) s [],
-  ),
-)
+    → weigh_put h xs ≡ weigh_taken h ts + weigh h rest))
+    → AreOfPut put ts
+of_put put xs ts all among = (among.0, λ h. sym (all h) ∙ among.1 h)

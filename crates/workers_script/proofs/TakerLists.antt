@@ -1,11 +1,11 @@
 -- The takers of workers: when they are new, when they come back, and when they left their queue.
 use Rattle.std.proofs.Common.{◌≡◌, ◌<◌, ◌+◌, ℕ, zero, suc, List, [], ◌∷◌, Some, get_or, length, refl, ◌∙◌, arith}
-use Rattle.std.specs.Prelude.{All, slice_get}
+use Rattle.std.specs.Prelude.{slice_get}
 use Rattle.std.proofs.lemmas.List.Sums.{sum_by-cons}
 use Rattle.std.proofs.lemmas.Option.{slice_get-get_or}
 use Rattle.hostcore.specs.Core.{CoreState}
-use Rattle.intake.specs.Ends.{AreNewTakers, AreTakersOf, LeftState, SubmitterState, TakerState, taker_shares, weigh_put, weigh_taken}
-use Rattle.intake.specs.Lists.{AreAmong, weigh}
+use Rattle.intake.specs.Ends.{AreNewTakers, AreTakersOf, TakerState, taker_shares, weigh_taken}
+use Rattle.intake.specs.Lists.{weigh}
 use Rattle.model.specs.History.{NamedCommand}
 use Rattle.workers.specs.declared.served.Served.{Served}
 use Rattle.workers.specs.Serves.{Serves}
@@ -15,10 +15,6 @@ pub new_of_queue : (queue : _) (count : ℕ) (takers : List TakerState)
     → AreNewTakers queue count takers → AreTakersOf queue takers
 new_of_queue queue count takers new i d within =
     (new.each i (get_or takers i d) (slice_get-get_or takers i d within)).of_queue
-
-pub new_count : (queue : _) (count : ℕ) (takers : List TakerState)
-    → AreNewTakers queue count takers → length takers ≡ count
-new_count queue count takers new = new.counted
 
 -- takers with the same shares have as many
 same_shares : (before after : List TakerState) → length after ≡ length before

@@ -1,25 +1,22 @@
 //! A script's commands, served.
 
-ghost use Rattle.std.specs.Prelude.{◌≡◌, ◌≤◌, ◌<◌, ◌+◌, ℕ, List, [], IfOk, OnOk, length};
-ghost use Rattle.intake.specs.Ends.{AreSubmittersOf, AreTakersOf, submitter_shares, taker_shares};
-ghost use Rattle.intake.specs.Ends.{weigh_put, weigh_taken};
-ghost use Rattle.intake.specs.Lists.{weigh};
-ghost use Rattle.intake.specs.declared.limits.TheConstants.{MAX_CAPACITY, SHARES};
+ghost use Rattle.std.specs.Prelude.{◌≡◌, ◌≤◌, IfOk, None, OnOk, length, map, replicate};
+ghost use Rattle.std.specs.List.{range_with_len};
 ghost use Rattle.model.specs.declared.limits.TheConstants.{MAX_THREADS};
-ghost use Rattle.model.specs.History.{NamedCommand, events_of};
+ghost use Rattle.model.specs.History.{events_of};
 ghost use Rattle.model.specs.Sound.{IsSound};
 ghost use Rattle.model.specs.Typable.{IsTypable};
-ghost use Rattle.workers_script.specs.Served.{Accounts, AreStarted};
-ghost use Rattle.workers_script.specs.Told.{Hosts, all_told, new_core};
+ghost use Rattle.workers_script.specs.Queued.{IsQueued};
+ghost use Rattle.workers_script.specs.Served.{Accounts, AreStarted, command_name};
+ghost use Rattle.workers_script.specs.Told.{Hosts, Tells, all_told, new_core};
 
 use crate::collecting::{none_told, tell_all};
+use crate::queueing::{Queued, queue_all};
+use crate::serving::{Done, serve_queued};
 use crate::standing::standing_in;
-use crate::submitting::submit_all;
 use checked::Checked;
 use driver_set::DriverSet;
-use hostcore::{Core, Taken, Ticket};
-use intake::limits::MAX_CAPACITY;
-use intake::{Closed, Intake, Submitter};
+use hostcore::Core;
 use laws_runs::accepted_runs_keep_the_rules;
 use model::event::{Event, Reply};
 use model::history::Command;
@@ -29,7 +26,7 @@ use std::alloc::{AllocError, Global};
 use std::sync::Wait;
 use std::thread::Threads;
 use verifier::Accepted;
-use workers::{Ends, Gate, Served, serve};
+use workers::{Ends, Gate};
 
 /// What came of the commands of a script.
 #[derive(Drop)]
@@ -66,17 +63,17 @@ impl Hosted {
     }
 }
 
+/// The commands of a script in a queue, and what is told of each before it is served: nothing.
+struct Ready {
+    queued: Queued,
+    told: Vec<Option<Reply>>,
+}
+
 /// A core that served commands, and what is told of each.
 #[derive(Drop)]
 struct Told {
     core: Core,
     told: Vec<Option<Reply>>,
-    ends: Ends,
-}
-
-/// A core whose workers have left the queue that they served, and their ends.
-struct Settled {
-    core: Core,
     ends: Ends,
 }
 
@@ -163,64 +160,74 @@ fn serve_all<G: Gate + Sync, R: Threads + Wait + Sync>(
     ensures told { IfOk result (λ ended. ended.told.items
         ≡ all_told ended.core.history (length commands.now)) }
 {
-    let room = room_for(commands.len());
-    let (intake, mut submitters, takers) = Intake::new(alloc, room, 1, workers as u32)?;
-    let mut told = none_told(alloc, commands.len())?;
-    let Ok(mut tickets) = Vec::with_capacity(alloc, commands.len()) else {
-        return Err(OutOfMemory);
-    };
-    let _back = submit_all(rt, &intake, &mut submitters[0], commands, &mut tickets);
-    let closed = intake.close();
-    let served = serve(rt, alloc, core, &intake, takers, gate);
-    let Settled { core, ends } = settle(intake, closed, submitters, served);
-    tell_all(&core, tickets, &mut told);
-    if ends.started() == 0 {
+    let ready = make_ready(rt, alloc, workers, commands)?;
+    let told = serve_ready(rt, alloc, core, ready, commands, gate);
+    if told.ends.started() == 0 {
         return Err(OutOfMemory);
     }
-    Ok(Told { core, told, ends })
+    Ok(told)
 }
 
-/// Room for so many commands in a queue, as far as one can have it. Each place is written when the
-/// queue is made, so what isn't needed isn't asked for.
-fn room_for(commands: usize) -> usize
-    ensures some { 1 ≤ result }
-    ensures few { result ≤ MAX_CAPACITY }
-    ensures all { 1 ≤ commands → commands ≤ MAX_CAPACITY → result ≡ commands }
+/// Puts the commands of a script into a queue, with memory for what will be told of them.
+fn make_ready<R: Wait>(
+    rt: &R,
+    alloc: Global,
+    workers: u8,
+    commands: &[Command],
+) -> Result<Ready, OutOfMemory>
+    requires some { 1 ≤ workers }
+    requires few { workers ≤ MAX_THREADS }
+    ensures queued { IfOk result (λ ready. IsQueued workers commands.now ready.queued) }
+    ensures told { IfOk result (λ ready. ready.told.items
+        ≡ replicate (length commands.now) None) }
 {
-    commands.max(1).min(MAX_CAPACITY)
+    let told = none_told(alloc, commands.len())?;
+    let queued = queue_all(rt, alloc, workers, commands)?;
+    Ok(Ready { queued, told })
 }
 
-/// Those who served a queue that was closed leave it, and what they held is given up.
-fn settle(intake: Intake, _closed: Closed, submitters: Vec<Submitter>, served: Served) -> Settled
-    requires closed { _closed ≡ intake }
-    requires some { 0 < length submitters.items }
-    requires submitters { AreSubmittersOf intake submitters.items }
-    requires takers { AreTakersOf intake served.takers.items }
-    requires shares { submitter_shares submitters.items + taker_shares served.takers.items
-        ≡ SHARES }
-    ensures core { result.core ≡ served.core }
-    ensures ends { result.ends ≡ served.ends }
-    ensures among { (rest : List NamedCommand) × ((h : NamedCommand → ℕ)
-        → weigh_put h submitters.items ≡ weigh_taken h served.takers.items + weigh h rest) }
+/// Has the commands of a script served over a core that has no entry, and tells of each.
+fn serve_ready<G: Gate + Sync, R: Threads + Wait + Sync>(
+    rt: &R,
+    alloc: Global,
+    core: Core,
+    ready: Ready,
+    commands: &[Command],
+    gate: &G,
+) -> Told
+    requires some { 1 ≤ core.threads }
+    requires few { core.threads ≤ MAX_THREADS }
+    requires new { core ≡ new_core core.set core.threads }
+    requires queued { IsQueued core.threads commands.now ready.queued }
+    requires told { ready.told.items ≡ replicate (length commands.now) None }
+    ensures set { result.core.set ≡ core.set }
+    ensures threads { result.core.threads ≡ core.threads }
+    ensures log { result.core.log ≡ core.log }
+    ensures accounts { Accounts core.threads commands.now result.core.history }
+    ensures started { 1 ≤ result.ends.started
+        → AreStarted core.threads result.core.history result.ends }
+    ensures told { result.told.items ≡ all_told result.core.history (length commands.now) }
 {
-    let Served {
+    let Ready { queued, told } = ready;
+    let done = serve_queued(rt, alloc, core, queued, commands, gate);
+    tell_done(done, told)
+}
+
+/// Tells of each command that had a ticket.
+fn tell_done(done: Done, mut told: Vec<Option<Reply>>) -> Told
+    requires tickets { done.tickets.items
+        ≡ map command_name (range_with_len 0 (length done.tickets.items)) }
+    requires few { length done.tickets.items ≤ length told.items }
+    ensures core { result.core ≡ done.core }
+    ensures ends { result.ends ≡ done.ends }
+    ensures told { Tells done.core.history (length done.tickets.items) told.items
+        result.told.items }
+{
+    let Done {
         core,
-        takers,
-        counts: _,
-        held,
-        started: _,
         ends,
-        full: _,
-    } = served;
-    give_up_all(held);
-    let _left = intake.left(submitters, takers);
-    Settled { core, ends }
-}
-
-/// Gives commands up.
-fn give_up_all(mut commands: Vec<Taken>) {
-    while let Some(taken) = commands.pop() {
-        let _command = taken.give_up();
-    }
-    commands.destroy_empty();
+        tickets,
+    } = done;
+    tell_all(&core, tickets, &mut told);
+    Told { core, told, ends }
 }

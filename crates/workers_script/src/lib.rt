@@ -5,6 +5,8 @@
 mod back;
 mod collecting;
 pub mod hosted;
+mod queueing;
+mod serving;
 mod standing;
 mod submitting;
 

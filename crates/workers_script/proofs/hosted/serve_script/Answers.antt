@@ -1,4 +1,4 @@
-use Rattle.std.proofs.Common.{◌≡◌, ◌∙◌, ℕ, ◌≤◌, List, ap, arith, length, subst, sym}
+use Rattle.std.proofs.Common.{◌≡◌, ◌∙◌, ℕ, ◌≤◌, List, ap, arith, length, subst}
 use Rattle.model.specs.declared.event.Event.{Event}
 use Rattle.model.specs.declared.history.Entry.{Entry}
 use Rattle.model.specs.History.{IsLegal}
