@@ -8,3 +8,4 @@ pub mod TicketLists
 pub mod ToldLists
 pub mod ReplayedEntries
 pub mod Idleness
+pub mod ToldWhole

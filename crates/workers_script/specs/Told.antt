@@ -9,10 +9,11 @@ use Rattle.model.specs.declared.history.Name.{Name}
 use Rattle.model.specs.declared.history.Outcome.{Outcome}
 use Rattle.model.specs.declared.history.TopOut.{TopOut}
 use Rattle.model.specs.declared.limits.TheConstants.{MAX_HISTORY}
-use Rattle.model.specs.History.{entry_named, outcome_named}
+use Rattle.model.specs.History.{IsLegal, entry_named, outcome_named}
 use Rattle.model.specs.Set.{Set}
 use Rattle.hostcore.specs.Core.{CoreState}
 use Rattle.workers_script.specs.declared.hosted.Hosted.{Hosted}
+use Rattle.workers_script.specs.declared.hosted.Told.{Told}
 use Rattle.workers_script.specs.Served.{AreStarted, HasServed, command_name}
 use Rattle.workers_script.specs.Standing.{IsStanding}
 
@@ -68,3 +69,14 @@ pub record Hosts (set : Set) (threads : ℕ) (commands : List Command) (hosted :
     pub entries : hosted.entries ≡ length history
     pub standing : IsStanding set threads history hosted.standing
     pub stored : hosted.core.history ≡ history
+
+-- what came of the commands, of a core that served them and what was told of each: where threads
+-- stand was looked at, and nothing else changed
+pub record StandsAfter (set : Set) (threads : ℕ) (before : Told) (hosted : Hosted) : Type 0 where
+  pub legal : IsLegal set threads before.core.history
+  pub room : length before.core.history ≤ before.core.log
+  pub told : hosted.told ≡ before.told
+  pub ends : hosted.ends ≡ before.ends
+  pub entries : hosted.entries ≡ length before.core.history
+  pub standing : IsStanding set threads before.core.history hosted.standing
+  pub stored : hosted.core.history ≡ before.core.history

@@ -8,7 +8,7 @@ ghost use Rattle.model.specs.Sound.{IsSound};
 ghost use Rattle.model.specs.Typable.{IsTypable};
 ghost use Rattle.workers_script.specs.Queued.{IsQueued};
 ghost use Rattle.workers_script.specs.Served.{Accounts, AreStarted, command_name};
-ghost use Rattle.workers_script.specs.Told.{Hosts, Tells, all_told, new_core};
+ghost use Rattle.workers_script.specs.Told.{Hosts, StandsAfter, Tells, all_told, new_core};
 
 use crate::collecting::{none_told, tell_all};
 use crate::queueing::{Queued, queue_all};
@@ -100,11 +100,25 @@ pub fn serve_script<G: Gate + Sync, R: Threads + Wait + Sync>(
     accepted_runs_keep_the_rules();
     let set = set_of(alloc, &accepted)?;
     let core = core_of(alloc, accepted, workers)?;
+    let told = serve_all(rt, alloc, core, workers, commands, gate)?;
+    stand(alloc, set, told, workers)
+}
+
+/// Where threads stand after a script was served.
+fn stand(alloc: Global, set: DriverSet, told: Told, workers: u8) -> Result<Hosted, OutOfMemory>
+    requires some { 1 ≤ workers }
+    requires few { workers ≤ MAX_THREADS }
+    requires typable { IsTypable set }
+    requires sound { IsSound set }
+    requires set { told.core.set ≡ set }
+    requires threads { told.core.threads ≡ workers }
+    ensures { IfOk result (StandsAfter set workers told) }
+{
     let Told {
         mut core,
         told,
         ends,
-    } = serve_all(rt, alloc, core, workers, commands, gate)?;
+    } = told;
     let standing = standing_in(alloc, set, &mut core, workers)?;
     let entries = core.history().len();
     Ok(Hosted {
@@ -161,7 +175,14 @@ fn serve_all<G: Gate + Sync, R: Threads + Wait + Sync>(
         ≡ all_told ended.core.history (length commands.now)) }
 {
     let ready = make_ready(rt, alloc, workers, commands)?;
-    let told = serve_ready(rt, alloc, core, ready, commands, gate);
+    started(serve_ready(rt, alloc, core, ready, commands, gate))
+}
+
+/// What is told, where a worker was started.
+fn started(told: Told) -> Result<Told, OutOfMemory>
+    ensures same { IfOk result (λ ended. ended ≡ told) }
+    ensures some { OnOk result (1 ≤ told.ends.started) }
+{
     if told.ends.started() == 0 {
         return Err(OutOfMemory);
     }
