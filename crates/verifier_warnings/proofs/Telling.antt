@@ -1,6 +1,6 @@
 -- The line of a driver tells the order of the locks that it takes two at once.
-use Rattle.laws_runs.proofs.Common.{ap, arith, inl, inr, refl, subst, sym, zero, suc, append_assoc, All, Bool, List, Some, [], true, false, length, slice_get, ℕ, ◌+◌, ◌<◌, ◌∷◌, ◌≡◌, ◌≢◌, ◌∙◌, ◌++◌, Set, Guard, CancelLock}
-use Rattle.std.specs.Prelude.{Contains, codes}
+use Rattle.laws_runs.proofs.Common.{ap, arith, get_or, inl, inr, refl, subst, sym, zero, suc, append_assoc, All, Bool, List, Some, [], true, false, length, slice_get, ℕ, ◌+◌, ◌<◌, ◌∷◌, ◌≡◌, ◌≢◌, ◌∙◌, ◌++◌, Set, Guard, CancelLock}
+use Rattle.std.specs.Prelude.{Contains, codes, ◌==◌}
 use Rattle.verifier_orders.specs.Edges.{HasNoOrder}
 use Rattle.verifier_orders.specs.Orders.{ArePaired}
 use Rattle.verifier_warnings.specs.Lines.{HoldsNoTwo, IsOrderLine, comma, lock_name, names_to, order_words, takes_lock}
@@ -37,11 +37,13 @@ pub name_added : (locks : List Guard) (count : ℕ) (lock : Guard) (start old mi
     → new ≡ start ++ names_to locks (count + 1)
 name_added locks count lock start old middle new is second third same =
     let next : suc count ≡ count + 1 = omega arith in
-    third ∙ ap (λ (xs : List ℕ). xs ++ lock_name lock) (second ∙ ap (λ (xs : List ℕ). xs ++ comma count) is)
-    ∙ append_assoc (start ++ names_to locks count) (comma count) (lock_name lock)
-    ∙ append_assoc start (names_to locks count) (comma count ++ lock_name lock)
-    ∙ ap (λ (g : Guard). start ++ (names_to locks count ++ (comma count ++ lock_name g))) same
-    ∙ ap (λ (n : ℕ). start ++ names_to locks n) next
+    let more : new ≡ start ++ names_to locks (suc count) =
+    third
+    ∙ ap (λ (xs : List ℕ). xs ++ lock_name lock) (second ∙ ap (λ (xs : List ℕ). xs ++ comma count) is)
+    ∙ ap (λ (xs : List ℕ). xs ++ lock_name lock) (append_assoc start (names_to locks count) (comma count))
+    ∙ append_assoc start (names_to locks count ++ comma count) (lock_name lock)
+    ∙ ap (λ (g : Guard). start ++ ((names_to locks count ++ comma count) ++ lock_name g)) same in
+    subst (λ (n : ℕ). new ≡ start ++ names_to locks n) next more
 
 -- one line more
 pub line_behind : (P : ℕ → List ℕ → Type 0) (count : ℕ) (old line new : List ℕ)
@@ -50,3 +52,22 @@ line_behind P count old line new are is all =
     let next : suc count ≡ count + 1 = omega arith in
     let more : AreLines P (suc count) new = (old, line, are, is, all) in
     subst (λ (n : ℕ). AreLines P n new) next more
+
+-- the words where some are told
+pub order_added : (locks : List Guard) (start old middle new : List ℕ)
+    → (length locks == 0) ≡ false → old ≡ start ++ codes " takes its locks in this order: "
+    → middle ≡ old ++ names_to locks (length locks) → new ≡ middle ++ codes ".\n"
+    → new ≡ start ++ order_words locks
+order_added [] start old middle new some is second third = cc
+order_added (lock ∷ locks) start old middle new some is second third =
+    let all : List Guard = lock ∷ locks in
+    let names : List ℕ = names_to all (length all) in
+    third
+    ∙ ap (λ (xs : List ℕ). xs ++ codes ".\n") (second ∙ ap (λ (xs : List ℕ). xs ++ names) is)
+    ∙ append_assoc (start ++ codes " takes its locks in this order: ") names (codes ".\n")
+    ∙ append_assoc start (codes " takes its locks in this order: ") (names ++ codes ".\n")
+
+-- of none there is no first
+pub none_is_empty : (locks : List Guard) → locks ≡ [] → (length locks == 0) ≡ true
+none_is_empty [] none = refl
+none_is_empty (lock ∷ locks) none = cc

@@ -2,6 +2,7 @@
 //! which it holds two at once.
 
 ghost use Rattle.std.specs.Prelude.{◌≡◌, ◌++◌, IfOk, false, length, slice_get, string_bytes};
+ghost use Rattle.std.specs.List.{list_any};
 ghost use Rattle.verifier_orders.specs.Orders.{AreLockOrders, AreOrdered, IsLockOrder};
 ghost use Rattle.verifier_warnings.specs.Lines.{IsOrderLine, comma, is_taking, lock_name};
 ghost use Rattle.verifier_warnings.specs.Lines.{names_to, order_words, takes_in, takes_lock};
@@ -11,7 +12,7 @@ ghost use Rattle.verifier_warnings.specs.Warnings.{AreLines};
 use crate::orders::Telling;
 use driver_set::DriverSet;
 use model::instr::Instr;
-use model::set::{Guard, Routine};
+use model::set::{Driver, Guard, Routine};
 use std::alloc::{AllocError, Global};
 use verifier::Accepted;
 use verifier_orders::{LockOrder, paired_locks};
@@ -144,13 +145,20 @@ fn takes_lock(set: &DriverSet, number: u8) -> bool
     ensures { result ≡ takes_lock (slice_get set.now.drivers number) }
 {
     match set.drivers().get(number as usize) {
-        Some(driver) => driver
-            .routines
-            .as_slice()
-            .iter()
-            .any(|routine| takes_in(routine)),
+        Some(driver) => takes_in_one(driver),
         None => false,
     }
+}
+
+/// Whether a routine of a driver takes a lock.
+fn takes_in_one(driver: &Driver) -> bool
+    ensures { result ≡ list_any takes_in driver.now.routines }
+{
+    driver
+        .routines
+        .as_slice()
+        .iter()
+        .any(|routine| takes_in(routine))
 }
 
 /// Whether a routine takes a lock.

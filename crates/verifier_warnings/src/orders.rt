@@ -92,8 +92,9 @@ pub fn acceptance(
     ensures orders { IfOk result (λ words. TellsOrders accepted.now (string_bytes words)) }
     ensures each { IfOk result (λ words. TellsEach accepted.now (string_bytes words)) }
 {
+    let set = accepted.set();
     let orders = orders_of(alloc, accepted)?;
-    let telling = Telling::of(alloc, origin, accepted.set())?;
+    let telling = Telling::of(alloc, origin, set)?;
     let lines = order_lines(alloc, accepted, &telling, orders.as_slice())?;
     let end = end_words(alloc, &telling, orders.as_slice())?;
     routines_before(alloc, &telling, lines.as_str(), end.as_str())
