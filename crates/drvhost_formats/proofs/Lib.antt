@@ -1,5 +1,4 @@
 pub mod Telling
 pub mod Refusing
-pub mod Naming
 pub mod EventLines
 pub mod Explaining

@@ -8,7 +8,7 @@ use Rattle.report_json.specs.Line.{json_line}
 use Rattle.report_json.specs.Verdict.{refusal_json}
 use Rattle.drvhost_formats.specs.declared.outcome.Outcome.{Outcome}
 use Rattle.drvhost_formats.specs.declared.outcome.Outcome.TheVariants.{Stopped}
-use Rattle.drvhost_formats.specs.Check.{IsRefusalJson}
+use Rattle.answer.specs.Check.{IsRefusalJson}
 use Rattle.drvhost_formats.specs.Told.{told}
 
 -- it was added, unless there was no memory for a verdict

@@ -20,9 +20,9 @@ use Rattle.drvhost_mends.specs.Fix.{IsFix}
 use Rattle.drvhost_devices.specs.declared.extent.Extent.{Extent}
 use Rattle.drvhost_devices.specs.declared.extent.Extent.TheVariants.{First, Each}
 use Rattle.drvhost_formats.specs.declared.outcome.Outcome.TheVariants.{Complete, Stopped}
-use Rattle.drvhost_formats.specs.Check.{certified_routines, with_names}
+use Rattle.answer.specs.Check.{certified_routines, with_names}
 use Rattle.drvhost_formats.specs.Explanation.{Lesson, acceptance_explained_json, refusal_explained_json}
-use Rattle.drvhost_formats.specs.Names.{routine_names}
+use Rattle.answer.specs.Names.{routine_names}
 use Rattle.drvhost_formats.specs.Told.{IsToldOf, told, told_line}
 
 -- an accepted set: its routines with their names, and words that tell whether its drivers take their

@@ -1,6 +1,4 @@
 pub mod Told
-pub mod Names
-pub mod Check
 pub mod Trace
 pub mod Events
 pub mod Explanation

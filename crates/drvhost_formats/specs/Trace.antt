@@ -18,7 +18,7 @@ use Rattle.drvhost_devices.specs.declared.verification.Verification.{Verificatio
 use Rattle.drvhost_devices.specs.declared.verification.Verification.TheVariants.{Required, Skipped}
 use Rattle.drvhost_formats.specs.declared.outcome.Outcome.TheVariants.{Complete, Stopped}
 use Rattle.drvhost_formats.specs.declared.trace.Asked.{Asked}
-use Rattle.drvhost_formats.specs.Check.{IsRefusalJson}
+use Rattle.answer.specs.Check.{IsRefusalJson}
 use Rattle.drvhost_formats.specs.Told.{IsOutOfMemory, IsToldOf, fault_answer, told}
 
 -- a line for each reply, the first of which is to the event of this number

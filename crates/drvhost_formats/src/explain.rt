@@ -17,11 +17,11 @@ ghost use Rattle.drvhost_formats.specs.Explanation.{Lesson, refusal_explained_js
 ghost use Rattle.drvhost_formats.specs.Told.{told};
 ghost use Rattle.drvhost_devices.specs.Ready.{CanAnswer};
 
-use crate::certified::certified_routines;
 use crate::explanation::{ExplainedAcceptance, ExplainedRefusal};
 use crate::job::{Job, answer};
-use crate::names::routine_names;
 use crate::outcome::Outcome;
+use answer::certified::certified_routines;
+use answer::names::routine_names;
 use drvhost_devices::device::{Sink, Source};
 use drvhost_devices::extent::Extent;
 use drvhost_devices::fault::Fault;
@@ -46,7 +46,7 @@ use verifier_words::explanations;
 /// routine, with its place, the paths that lead there and what is known at each of their steps, why
 /// the rule is broken, and how to mend it, for the first fault with the edits of lines that do it,
 /// if they were judged; or for the fault of its text or its image. The answer is the exit status,
-/// as that of [`check_json`](crate::check::check_json).
+/// as that of the verdict alone.
 pub fn explain_json<S: Source, O: Sink, E: Sink>(
     alloc: Global,
     explained: Explained<'_>,

@@ -3,15 +3,12 @@
 //! whatever comes of it.
 #![tactic(auto)]
 
-mod certified;
 pub mod check;
 mod events;
 pub mod explain;
 mod explanation;
 pub mod job;
 pub mod judged;
-mod names;
 pub mod outcome;
 pub mod reading;
 pub mod trace;
-pub mod unopened;

@@ -5,7 +5,7 @@ use Rattle.std.specs.Io.KnownBytes.{Appends}
 use Rattle.drvhost_commands.specs.declared.job.Judging.{Judging}
 use Rattle.drvhost_devices.specs.Answer.{Answer, faulty}
 use Rattle.drvhost_devices.specs.Device.{Bytes, TakesBeginning}
-use Rattle.drvhost_formats.specs.Told.{IsUnopenedJson}
+use Rattle.answer.specs.Told.{IsUnopenedJson}
 use Rattle.drvhost_files.specs.declared.reading.Contents.{Contents}
 use Rattle.drvhost_files.specs.declared.reading.Contents.TheVariants.{Whole, Unread, Unopened, Lacking}
 use Rattle.drvhost_files.specs.declared.reading.Held.{Held}

@@ -6,9 +6,9 @@ use Rattle.drvhost_commands.specs.declared.job.Judging.TheVariants.{Check, Check
 use Rattle.drvhost_devices.specs.Answer.{Answer, faulty}
 use Rattle.drvhost_devices.specs.Device.{MayBeClosed, Supply, TakesBeginning}
 use Rattle.drvhost_devices.specs.Ends.{IsCheckOf}
-use Rattle.drvhost_formats.specs.Check.{IsCheckJsonOf}
+use Rattle.answer.specs.Check.{IsCheckJsonOf}
 use Rattle.drvhost_formats.specs.Explain.{IsExplainJsonOf}
-use Rattle.drvhost_formats.specs.Told.{IsUnopenedJson}
+use Rattle.answer.specs.Told.{IsUnopenedJson}
 use Rattle.drvhost_sets.specs.Explained.{IsFileExplained}
 use Rattle.drvhost_many.specs.Painted.{IsShown}
 use Rattle.drvhost_many.specs.declared.many.Halt.{Halt}

@@ -1,26 +1,26 @@
 //! The answer for one file.
 
-ghost use Rattle.std.specs.Prelude.{◌≡◌, IfOk, codes};
-ghost use Rattle.drvhost_devices.specs.Answer.{faulty};
+ghost use Rattle.std.specs.Prelude.{◌≡◌, IfOk};
 ghost use Rattle.drvhost_devices.specs.Device.{Bytes, Says};
 ghost use Rattle.drvhost_devices.specs.Ends.{Answers};
 ghost use Rattle.drvhost_devices.specs.Ready.{CanAnswer};
-ghost use Rattle.drvhost_formats.specs.Told.{IsUnopenedJson};
 ghost use Rattle.drvhost_many.specs.Held.{IsAnswerTo, IsToldOf};
 ghost use Rattle.drvhost_many.specs.One.{IsJudged, is_in_json};
 
 use crate::named::{One, with_name};
 use crate::painting::explain_shown;
+use answer::as_json::Json;
+use answer::as_text::Text;
+use answer::check::Judgement;
+use answer::deliver::deliver;
+use answer::form::Form;
+use answer::judged::Judged;
 use drvhost_commands::job::Judging;
 use drvhost_devices::device::{Reader, Sink, Source, Writer};
 use drvhost_devices::told::{Told, collected};
 use drvhost_files::reading::{Contents, Held};
-use drvhost_formats::check::check_json;
 use drvhost_formats::explain::explain_json;
-use drvhost_formats::unopened::unopened_json;
-use drvhost_sets::check::check;
 use drvhost_sets::showing::Explained;
-use report::fault::READ_FAILED;
 use std::alloc::{AllocError, Global};
 
 /// What is answered for a file that was read, told with its name.
@@ -41,8 +41,8 @@ fn answer_alone(alloc: Global, judging: Judging, held: &Held<'_>) -> Result<Told
 {
     match &held.contents {
         Contents::Whole(bytes) => judge_bytes(alloc, judging, held.name, bytes.as_slice()),
-        Contents::Unread => tell_unread(alloc),
-        Contents::Unopened => tell_unopened(alloc, held.name),
+        Contents::Unread => Text.unread(alloc, held.name),
+        Contents::Unopened => Json.unopened(alloc, held.name),
         Contents::Lacking => Err(AllocError),
     }
 }
@@ -61,25 +61,6 @@ fn judge_bytes(
     let mut errors = Writer::new(Vec::new(alloc));
     let exit = judge(alloc, judging, name, &mut set, &mut output, &mut errors);
     collected(exit, set.failures(), output, errors)
-}
-
-/// What is answered for a file of which a read failed.
-fn tell_unread(alloc: Global) -> Result<Told, AllocError>
-    ensures { IfOk result (λ told. told ≡ faulty (codes "read failed\n")) }
-{
-    let mut errors = Vec::new(alloc);
-    errors.extend_from_slice(READ_FAILED.as_bytes())?;
-    Ok(Told::of(2, Vec::new(alloc), errors))
-}
-
-/// What is answered in JSON for a file of this name that can't be opened.
-fn tell_unopened(alloc: Global, name: &str) -> Result<Told, AllocError>
-    ensures { IfOk result (IsUnopenedJson name.now) }
-{
-    let mut output = Writer::new(Vec::new(alloc));
-    let mut errors = Writer::new(Vec::new(alloc));
-    let exit = unopened_json(alloc, name, &mut output, &mut errors);
-    collected(exit, 0, output, errors)
 }
 
 /// Whether all that is answered is JSON.
@@ -106,8 +87,20 @@ pub fn judge<S: Source, O: Sink, E: Sink>(
         result }
 {
     match judging {
-        Judging::Check => check(alloc, set, out, err),
-        Judging::CheckJson => check_json(alloc, name, set, out, err),
+        Judging::Check => {
+            let judged = Judged {
+                job: Judgement,
+                form: Text,
+            };
+            deliver(&judged, alloc, name, set, out, err)
+        }
+        Judging::CheckJson => {
+            let judged = Judged {
+                job: Judgement,
+                form: Json,
+            };
+            deliver(&judged, alloc, name, set, out, err)
+        }
         Judging::Explain(extent, coloring) => {
             explain_shown(alloc, Explained { name, extent }, coloring, set, out, err)
         }

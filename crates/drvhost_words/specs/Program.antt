@@ -12,7 +12,7 @@ use Rattle.drvhost_devices.specs.declared.verification.Verification.{Verificatio
 use Rattle.drvhost_devices.specs.declared.verification.Verification.TheVariants.{Required}
 use Rattle.drvhost_devices.specs.Ends.{Ends, HoldsRun, IsCheckOf, IsListOf, IsRewriteOf, IsTraceOf}
 use Rattle.drvhost_hunts.specs.Find.{IsFindOf}
-use Rattle.drvhost_formats.specs.Told.{IsUnopenedJson}
+use Rattle.answer.specs.Told.{IsUnopenedJson}
 use Rattle.drvhost_formats.specs.Trace.{IsTraceJsonOf}
 use Rattle.drvhost_hunts.specs.declared.hunt.Way.TheVariants.{Quick, Exact}
 use Rattle.drvhost_hunts.specs.Hunt.{IsHuntOfWay}

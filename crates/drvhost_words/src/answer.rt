@@ -27,6 +27,9 @@ use crate::serving::host_files;
 use crate::telling::{Shown, tell_shown};
 use crate::unread::{tell_if_unread, tell_which_unread};
 use crate::work::Work;
+use answer::as_json::Json;
+use answer::deliver::write_answer;
+use answer::form::Form;
 use drvhost_commands::job::{
     FileNames, Job, JobFault, Judged, Judging, Page, Task, Testing, Way, refuse_unknown_words,
     refuse_words,
@@ -39,7 +42,6 @@ use drvhost_devices::unopened::tell_unopened;
 use drvhost_files::files::{Files, Later, Pending};
 use drvhost_files::sought::{Search, Sought};
 use drvhost_formats::trace::{Asked, trace_json};
-use drvhost_formats::unopened::unopened_json;
 use drvhost_hunts::find::find;
 use drvhost_hunts::hunt::{self, Hunting, hunt_by};
 use drvhost_many::file::{self, judge};
@@ -51,7 +53,6 @@ use drvhost_mends::mend::{self, mend};
 use drvhost_runs::trace::trace;
 use drvhost_sarif::logging::{Log, log_paths};
 use drvhost_scenarios::schedule::schedule;
-use drvhost_sets::check::check;
 use drvhost_sets::list::list;
 use drvhost_sets::rewriting::rewrite;
 use drvhost_sets::rule::{explain_lock_order, explain_rule};
@@ -344,7 +345,7 @@ fn check_file<F: Files, O: Sink, E: Sink>(
     ensures kept { OnlyReads F.Files files.old files.new }
 {
     let mut file = files.open(set);
-    let status = check(alloc, &mut file, out, err);
+    let status = judge(alloc, Judging::Check, set, &mut file, out, err);
     files.close(file);
     status
 }
@@ -414,7 +415,7 @@ fn refuse_unopened<O: Sink, E: Sink>(
         reads reads out.old out.new err.old err.new result }
 {
     if is_in_json(work) {
-        return unopened_json(alloc, name, out, err);
+        return write_answer(Json.unopened(alloc, name), out, err);
     }
     tell_unopened(name, err)
 }

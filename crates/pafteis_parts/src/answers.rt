@@ -31,11 +31,7 @@ use std::alloc::Global;
 pub fn check(alloc: Global, set: &[u8]) -> Result<Told, OutOfMemory>
     ensures { IfOk result (IsCheckOf (Bytes set.now)) }
 {
-    let mut source = Reader::new(Some(set));
-    let mut output = Writer::new(Vec::new(alloc));
-    let mut errors = Writer::new(Vec::new(alloc));
-    let exit = drvhost_sets::check::check(alloc, &mut source, &mut output, &mut errors);
-    collected(exit, source.failures(), 0, output, errors)
+    Ok(answer::check::check(alloc, set)?)
 }
 
 /// The same, explained in words: of its first fault, or of each routine's.

@@ -2,9 +2,8 @@
 //! a name, or as what it says. The digests are those of what an independent program answers.
 
 use crate::case::answer_of;
-use drvhost_devices::device::{Reader, Writer};
+use answer::check::check;
 use drvhost_devices::verification::Verification;
-use drvhost_sets::check::check;
 use md5::{Digest, Md5};
 use std::alloc::{AllocError, Global};
 use std::test::Fail;
@@ -26,13 +25,10 @@ const RUNS: [u8; 16] = [
 
 /// Adds what a verdict on a text ends with and writes.
 fn add_verdict(alloc: Global, text: &[u8], answers: &mut Vec<u8>) -> Result<(), AllocError> {
-    let mut source = Reader::new(Some(text));
-    let mut output = Writer::new(Vec::<u8>::new(alloc));
-    let mut errors = Writer::new(Vec::<u8>::new(alloc));
-    let status = check(alloc, &mut source, &mut output, &mut errors);
-    answers.push(status)?;
-    answers.extend_from_slice(output.into_inner().as_slice())?;
-    answers.extend_from_slice(errors.into_inner().as_slice())
+    let told = check(alloc, text)?;
+    answers.push(told.status())?;
+    answers.extend_from_slice(told.output())?;
+    answers.extend_from_slice(told.told())
 }
 
 /// The same for the trace of a schedule.

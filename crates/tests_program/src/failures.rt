@@ -2,8 +2,13 @@
 //! worker serves, over devices that move few bytes a call, or fail at each call in turn.
 
 ghost use Rattle.std.specs.Prelude.{◌≡◌};
+ghost use Rattle.drvhost_devices.specs.Ready.{CanAnswer};
 
 use crate::devices::{Narrow, Slow, have_taken};
+use answer::as_text::Text;
+use answer::check::Judgement;
+use answer::deliver::deliver;
+use answer::judged::Judged;
 use drvhost_devices::device::{Reader, Sink, Source};
 use drvhost_devices::extent::Extent;
 use drvhost_devices::figure::Figure;
@@ -11,7 +16,6 @@ use drvhost_devices::manner::{Detail, Manner, Strictness};
 use drvhost_devices::verification::Verification;
 use drvhost_runs::host::{Hosting, host};
 use drvhost_runs::trace::trace;
-use drvhost_sets::check::check;
 use drvhost_sets::explaining::explain;
 use drvhost_sets::list::list;
 use drvhost_sets::rewriting::rewrite;
@@ -349,6 +353,17 @@ struct Streams<'a> {
     set: Slow<'a>,
     out: Narrow,
     err: Narrow,
+}
+
+/// The exit status of the verdict on the set of a source.
+fn check<S: Source, O: Sink, E: Sink>(alloc: Global, set: &mut S, out: &mut O, err: &mut E) -> u8
+    requires { CanAnswer O.Sink E.Sink (S.failures set.old) out.old err.old }
+{
+    let judged = Judged {
+        job: Judgement,
+        form: Text,
+    };
+    deliver(&judged, alloc, "", set, out, err)
 }
 
 /// The exit status of a case with such devices.

@@ -1,9 +1,8 @@
 //! An accepted set at the limits. The digests are those of what an independent program answers.
 
 use crate::case::traced;
-use drvhost_devices::device::{Reader, Writer};
+use answer::check::check;
 use drvhost_devices::verification::Verification;
-use drvhost_sets::check::check;
 use md5::{Digest, Md5};
 use std::alloc::{AllocError, Global};
 use std::test::Fail;
@@ -73,13 +72,10 @@ fn longest_schedule(alloc: Global) -> Result<String, AllocError> {
 fn the_largest_set_is_accepted(rt: HostRuntime) -> Result<(), Fail> {
     let alloc = rt.alloc();
     let set = largest_set(alloc)?;
-    let mut out = Writer::new(Vec::<u8>::new(alloc));
-    let mut err = Writer::new(Vec::<u8>::new(alloc));
-    let mut source = Reader::new(Some(set.as_bytes()));
-    let status = check(alloc, &mut source, &mut out, &mut err);
-    assert_eq!(rt; status, 0);
-    assert!(rt; err.into_inner().is_empty());
-    assert!(rt; Md5::digest(out.into_inner().as_slice()).as_slice() == VERDICT.as_slice());
+    let told = check(alloc, set.as_bytes())?;
+    assert_eq!(rt; told.status(), 0);
+    assert!(rt; told.told().is_empty());
+    assert!(rt; Md5::digest(told.output()).as_slice() == VERDICT.as_slice());
     Ok(())
 }
 

@@ -9,4 +9,4 @@ returns-clause-answers g c =
     let supply = g.F.File.Source.supply c.open-file.result in
     let known = g.F.Files.supply c.args.files.now c.args.set.now in
     answers_rightly (IsCheckOf supply) (IsCheckOf known) _ _ _ _ _ _ _ _ _ _
-    c.check-status.ensures (check_known known supply c.open-file.ensures.supply) (omega arith)
+    c.judge-status.ensures (check_known known supply c.open-file.ensures.supply) (omega arith)

@@ -1,0 +1,4 @@
+pub mod Lines
+pub mod Naming
+pub mod Checking
+pub mod Delivering

@@ -1,0 +1,5 @@
+pub mod Told
+pub mod Names
+pub mod Check
+pub mod Judged
+pub mod Delivered

@@ -1,0 +1,17 @@
+//! Answers as values: a job is a function from what files held to an answer, judging is said once
+//! for all jobs on a set, and a form says what was found, as text or as JSON. `deliver` alone reads
+//! a file and writes an answer.
+#![tactic(auto)]
+
+pub mod as_json;
+pub mod as_text;
+pub mod certified;
+pub mod check;
+pub mod content;
+pub mod deliver;
+pub mod form;
+pub mod job;
+pub mod judged;
+pub mod names;
+pub mod reading;
+pub mod set;
