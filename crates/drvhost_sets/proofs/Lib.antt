@@ -1,4 +1,3 @@
-pub mod Judging
 pub mod One
 pub mod Explained
 pub mod Wording

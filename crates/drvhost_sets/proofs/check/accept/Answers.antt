@@ -2,7 +2,7 @@ use Rattle.std.proofs.Common.{◌∙◌, ◌+◌, ◌++◌, drop, ap, rules, sym
 use Rattle.std.proofs.lemmas.Result.{err_from_is_err_and}
 use Rattle.drvhost_devices.specs.Answer.{driver_lines, routine_lines}
 use Rattle.drvhost_devices.proofs.Writing.{gathered_more, gathered_part}
-use Rattle.drvhost_sets.proofs.Judging.{next_driver}
+use Rattle.answer.proofs.Lines.{next_driver}
 use Rattle.drvhost_sets.proofs.check.accept.Goals as goal
 
 pub returns-in_err-certify-clause-broken : goal.returns-in_err-certify-clause-broken

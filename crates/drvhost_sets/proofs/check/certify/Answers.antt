@@ -4,7 +4,7 @@ use Rattle.model.specs.Certificate.{certificate_of}
 use Rattle.report.specs.Verdict.{certificate_line}
 use Rattle.drvhost_devices.specs.Answer.{routine_lines}
 use Rattle.drvhost_devices.proofs.Writing.{gathered_broken, gathered_line, gathered_room}
-use Rattle.drvhost_sets.proofs.Judging.{next_routine, routine_there}
+use Rattle.answer.proofs.Lines.{next_routine, routine_there}
 use Rattle.drvhost_sets.proofs.check.certify.Goals as goal
 
 pub returns-in_err-make_room-clause-broken : goal.returns-in_err-make_room-clause-broken
