@@ -1,5 +1,5 @@
 -- An answer that is right went to its writers, or there was none.
-use Rattle.std.proofs.Common.{◌≡◌, ◌+◌, ◌⊎◌, ℕ, List, Option, Result, Ok, Err, arith, codes, inl, inr, refl}
+use Rattle.std.proofs.Common.{◌≡◌, ◌+◌, ◌⊎◌, ℕ, List, Option, Result, Ok, Err, arith, inl, inr, refl}
 use Rattle.std.specs.Prelude.{IfOk}
 use Rattle.drvhost_devices.specs.Answer.{Answer}
 use Rattle.drvhost_devices.specs.declared.fault.Fault.{Fault}

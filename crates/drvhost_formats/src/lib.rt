@@ -1,6 +1,5 @@
 //! What the program answers in formats that other programs read: the verdict on the driver set of
-//! one file, explained if asked for, and the trace of a run as lines of JSON, on the output
-//! whatever comes of it.
+//! one file, explained, and the trace of a run as lines of JSON, on the output whatever comes of it.
 #![tactic(auto)]
 
 pub mod check;

@@ -1,6 +1,6 @@
 //! What the program answers of the driver set of one file, over any devices: the verdict on it,
-//! explained or not, the warnings of an accepted one, its listing and its image; and a rule in
-//! words, and which program this is.
+//! explained, the warnings of an accepted one, its listing and its image; and a rule in words, and
+//! which program this is.
 #![tactic(auto)]
 
 pub mod advising;
