@@ -1,12 +1,14 @@
 //! The trace of a run.
 
-ghost use Rattle.std.specs.Prelude.{◌≡◌, ◌+◌, ◌⊎◌, []};
+ghost use Rattle.std.specs.Prelude.{◌≡◌, ◌+◌, ◌⊎◌, [], Ok};
+ghost use Rattle.drvhost_devices.specs.Answer.{ran};
 ghost use Rattle.drvhost_devices.specs.Device.{CanCount};
 ghost use Rattle.drvhost_devices.specs.Ends.{HoldsRun, IsRunOf, IsTraceOf};
 ghost use Rattle.drvhost_devices.specs.Fault.{Goes, reads_failed, writes_failed};
 ghost use Rattle.drvhost_devices.specs.Ready.{CanAnswer};
 ghost use Rattle.drvhost_sets.specs.Chosen.{set_chosen};
 ghost use Rattle.drvhost_sets.specs.Devices.{AnswersOver};
+ghost use Rattle.interleave.specs.Listing.{IsWithinLimits};
 
 use crate::follow::follow;
 use checked::Checked;
@@ -17,9 +19,13 @@ use drvhost_devices::verification::Verification;
 use drvhost_sets::job::{Notes, answer};
 use drvhost_sets::judged::{Chosen, Judged, Running};
 use drvhost_sets::taking::Taking;
+use image::DriverSet;
+use interleave::schedule::Schedule;
 use machine::World;
 use report::lines::Lines;
 use std::alloc::Global;
+use std::mem::drop;
+use verifier::Accepted;
 
 /// Runs a driver set by a schedule, and writes a line for each event, up to the first bug check or
 /// wrong operand. Where verification is required, a refused set isn't run, and what is written is
@@ -85,8 +91,8 @@ impl<'a, P: Source> Running for Tracing<'a, P> {
     }
 }
 
-/// Runs an accepted set to the end of its schedule, and any other up to the first bug check or
-/// wrong operand.
+/// Runs a set by the schedule that a source has: an accepted one to its end, and any other up to the
+/// first bug check or wrong operand.
 fn trace_chosen<P: Source, O: Sink>(
     alloc: Global,
     chosen: Chosen,
@@ -103,14 +109,79 @@ fn trace_chosen<P: Source, O: Sink>(
     ensures writes { O.failures out.new ≡ O.failures out.old + writes_failed result }
 {
     let schedule = read_schedule(alloc, schedule)?;
+    run_chosen(alloc, chosen, &schedule, lines, out)
+}
+
+/// Runs it by a schedule.
+fn run_chosen<O: Sink>(
+    alloc: Global,
+    chosen: Chosen,
+    schedule: &Schedule,
+    lines: &mut Lines,
+    out: &mut O,
+) -> Result<End, Fault>
+    requires limits { IsWithinLimits schedule.now }
+    requires out { CanCount (O.failures out.old) }
+    requires empty { lines.old ≡ [] }
+    ensures goes { Goes (λ answer. answer ≡ ran (set_chosen chosen) (Ok schedule.now))
+        (O.contents out.old) (O.contents out.new) [] lines.new result }
+    ensures reads { reads_failed result ≡ 0 }
+    ensures writes { O.failures out.new ≡ O.failures out.old + writes_failed result }
+{
     match chosen {
-        Chosen::Accepted(accepted) => match World::new(alloc, accepted, schedule.threads) {
-            Ok(mut world) => follow(&mut world, &schedule, lines, out),
-            Err((_accepted, _refused)) => Err(Fault::Memory),
-        },
-        Chosen::Any(set) => match Checked::new(alloc, set, schedule.threads) {
-            Ok(mut machine) => follow(&mut machine, &schedule, lines, out),
-            Err((_set, _refused)) => Err(Fault::Memory),
-        },
+        Chosen::Accepted(accepted) => run_accepted(alloc, accepted, schedule, lines, out),
+        Chosen::Any(set) => run_any(alloc, set, schedule, lines, out),
+    }
+}
+
+/// Runs an accepted set to the end of a schedule.
+fn run_accepted<O: Sink>(
+    alloc: Global,
+    accepted: Accepted,
+    schedule: &Schedule,
+    lines: &mut Lines,
+    out: &mut O,
+) -> Result<End, Fault>
+    requires limits { IsWithinLimits schedule.now }
+    requires out { CanCount (O.failures out.old) }
+    requires empty { lines.old ≡ [] }
+    ensures goes { Goes (λ answer. answer ≡ ran accepted (Ok schedule.now))
+        (O.contents out.old) (O.contents out.new) [] lines.new result }
+    ensures reads { reads_failed result ≡ 0 }
+    ensures writes { O.failures out.new ≡ O.failures out.old + writes_failed result }
+{
+    match World::new(alloc, accepted, schedule.threads) {
+        Ok(mut world) => {
+            let end = follow(&mut world, schedule, lines, out);
+            drop(world);
+            end
+        }
+        Err((_accepted, _refused)) => Err(Fault::Memory),
+    }
+}
+
+/// Runs any set by a schedule, up to the first bug check or wrong operand.
+fn run_any<O: Sink>(
+    alloc: Global,
+    set: DriverSet,
+    schedule: &Schedule,
+    lines: &mut Lines,
+    out: &mut O,
+) -> Result<End, Fault>
+    requires limits { IsWithinLimits schedule.now }
+    requires out { CanCount (O.failures out.old) }
+    requires empty { lines.old ≡ [] }
+    ensures goes { Goes (λ answer. answer ≡ ran set (Ok schedule.now))
+        (O.contents out.old) (O.contents out.new) [] lines.new result }
+    ensures reads { reads_failed result ≡ 0 }
+    ensures writes { O.failures out.new ≡ O.failures out.old + writes_failed result }
+{
+    match Checked::new(alloc, set, schedule.threads) {
+        Ok(mut machine) => {
+            let end = follow(&mut machine, schedule, lines, out);
+            drop(machine);
+            end
+        }
+        Err((_set, _refused)) => Err(Fault::Memory),
     }
 }
