@@ -70,7 +70,7 @@ def verdict(status, said):
     """What a check says of an edit: refused, let through, or why it says nothing."""
     if status == 0:
         return 'NOT REFUSED'
-    if status == 1 and re.search(r': (not proved|no proof)$', said, re.M):
+    if status == 1 and re.search(r'^fn [^:]+(?:::[^:]+)*: (not proved|no proof)\b', said, re.M):
         return 'refused'
     errors = re.findall(r'^.*\berror\b.*$', said, re.M)
     return 'BAD: ' + (errors or said.strip().splitlines() or ['nothing was said'])[0][:200]
