@@ -41,7 +41,6 @@ PLACES = (
     ('crates/pafteis/src/texts.rt', 'in words, by its number, 1 to #.', 'rules'),
     ('crates/pafteis_values/src/constants.rt', 'by its number, 1 to #, such', 'rules'),
     ('crates/pafteis_values/src/rule.rt', 'of a number, 1 to #.', 'rules'),
-    ('crates/verifier_names/src/pages.rt', 'RULES: [Rule; #]', 'rules'),
     ('include/pafteis.h', 'a rule in words, 1 to #.', 'rules'),
     ('python/pafteis/verdicts.py', 'A rule in words, 1 to # or', 'rules'),
     ('rust/pafteis/src/words.rs', 'A rule in words, 1 to #;', 'rules'),
