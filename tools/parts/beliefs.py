@@ -20,7 +20,7 @@ CRATES = os.path.join(TOP, 'crates')
 TABLE = os.path.join(TOP, 'docs/DEFINITIONS.md')
 HEADINGS = {'### Cited by contracts of outer crates': 'outer', '### Cited by contracts of inner crates alone': 'inner'}
 # crates whose contracts are there for the proofs of other crates: nothing of them is called from outside
-INNER = 'laws_slots machine_parts checked_parts irp devqueue iomgr irql_locks absstate asm_line text tell_lines'.split()
+INNER = 'laws_slots machine_parts checked_parts irp devqueue iomgr irql_locks absstate asm_line text'.split()
 TESTS = 'tests_core tests_machine tests_program'.split()
 # what a type keeps for itself, which its callers can't see
 PRIVATE = 'view invariant inverse also_owns'.split()

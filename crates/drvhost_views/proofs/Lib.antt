@@ -6,3 +6,6 @@ pub mod ShownRuns
 pub mod ToldAlone
 pub mod PlainlySeen
 pub mod DrawnRuns
+pub mod WordStore
+pub mod Pieces
+pub mod Gathering

@@ -2,7 +2,7 @@
 use Rattle.std.proofs.Common.{◌≡◌, ◌∙◌, ℕ, zero, suc, ◌+◌, ◌-◌, ◌≤◌, Bool, true, false, List, [], ◌∷◌, ◌++◌, Result, Ok, Err, OnOk, refl, sym, ap, arith, replicate, subst, append_assoc, if◌then◌else◌}
 use Rattle.std.proofs.lemmas.List.{append-nil}
 use Rattle.report.specs.Reply.{worded_line}
-use Rattle.tell_lines.specs.Lines.{worded_lines}
+use Rattle.drvhost_views.specs.Lines.{worded_lines}
 use Rattle.drvhost_devices.specs.declared.manner.Detail.{Detail}
 use Rattle.drvhost_views.specs.Told.{IsTold, Occurrence, ToldOnce, ToldTimes, is_left_out, told_line}
 

@@ -1,2 +1,4 @@
 pub mod Seen
 pub mod Told
+pub mod Stored
+pub mod Lines

@@ -7,6 +7,7 @@ ghost use Rattle.model.specs.Machine.{ShowsWhole};
 ghost use Rattle.drvhost_devices.specs.Answer.{ended};
 ghost use Rattle.drvhost_views.specs.Told.{IsRunDrawn};
 
+use crate::kept::ToldLines;
 use crate::telling::Told;
 use checked::Checked;
 use draw_picture::{Drawing, Seen, add_picture};
@@ -20,7 +21,6 @@ use interleave::schedule::Schedule;
 use model::event::{Event, Reply};
 use std::alloc::{AllocError, Global};
 use tell_changes::Moment;
-use tell_lines::kept::ToldLines;
 use tell_names::Book;
 use words::Words;
 

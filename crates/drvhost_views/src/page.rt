@@ -6,6 +6,7 @@ ghost use Rattle.report.specs.Word.{word_of};
 ghost use Rattle.tell_words.specs.Noted.{noted};
 ghost use Rattle.drvhost_views.specs.Told.{ToldOnce, ToldTimes, has_occurred};
 
+use crate::kept::{ToldLines, Words};
 use crate::levels::is_left_out;
 use checked::Checked;
 use drvhost_devices::manner::Detail;
@@ -13,7 +14,6 @@ use report::event_number::EventNumber;
 use report::lines::Lines;
 use report::word::Word;
 use std::alloc::AllocError;
-use tell_lines::kept::{ToldLines, Words};
 use tell_words::{Happened, Teller};
 
 /// The text of a run that is told, and what its lines are made with.

@@ -10,6 +10,7 @@ ghost use Rattle.drvhost_views.specs.Told.{is_refused, occurs_in, times_of};
 ghost use Rattle.interleave.specs.Listing.{IsWithinLimits};
 ghost use Rattle.model.specs.Machine.{ShowsWhole};
 
+use crate::kept::ToldLines;
 use crate::levels::{at_once, times_of};
 use crate::page::Page;
 use crate::seeing::{Sight, goes_unseen};
@@ -26,7 +27,6 @@ use report::lines::Lines;
 use std::alloc::{AllocError, Global};
 use tell_audit::findings::Findings;
 use tell_holders::Rights;
-use tell_lines::kept::ToldLines;
 use tell_uses::laws::going_on_keeps_ledgers;
 use tell_uses::ledger::Ledger;
 use tell_words::Teller;

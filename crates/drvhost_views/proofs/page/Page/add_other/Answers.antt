@@ -1,6 +1,6 @@
 use Rattle.std.proofs.Common.{◌∙◌, ◌++◌, ap}
 use Rattle.report.specs.Reply.{reply_line}
-use Rattle.tell_lines.specs.Lines.{headed}
+use Rattle.drvhost_views.specs.Lines.{headed}
 use Rattle.drvhost_views.proofs.page.Page.add_other.Goals as goal
 
 pub returns-clause-told : goal.returns-clause-told

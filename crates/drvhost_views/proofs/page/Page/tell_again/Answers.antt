@@ -1,6 +1,6 @@
 use Rattle.std.proofs.Common.{◌≡◌, ◌∙◌, ◌-◌, ◌++◌, [], ap, arith, refl, sym}
 use Rattle.std.proofs.lemmas.List.{append-nil}
-use Rattle.tell_lines.specs.Lines.{worded_lines}
+use Rattle.drvhost_views.specs.Lines.{worded_lines}
 use Rattle.drvhost_views.specs.Told.{has_occurred}
 use Rattle.drvhost_views.proofs.ToldLines.{lines_told, none_left, none_told}
 use Rattle.drvhost_views.proofs.page.Page.tell_again.Goals as goal

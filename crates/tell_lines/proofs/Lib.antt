@@ -1,3 +1,0 @@
-pub mod WordStore
-pub mod Pieces
-pub mod Gathering

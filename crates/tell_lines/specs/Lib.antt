@@ -1,2 +1,0 @@
-pub mod Stored
-pub mod Lines
