@@ -81,7 +81,7 @@ def tried_alone(tried, functions):
     for names in functions:
         for name in names:
             status, said = tried.check([name])
-            if status != 2:
+            if not re.search(r'has no function `|fits several', said):
                 chosen.append(verdict(status, said))
                 break
         else:
