@@ -5,7 +5,7 @@
 use drvhost_devices::device::Writer;
 use drvhost_devices::surroundings::Surroundings;
 use drvhost_files::files::Disk;
-use drvhost_words::answer::{Setting, answer};
+use drvhost_words::program::{Setting, answer};
 use report_progress::meter::Meter;
 use std::env::{self, VarError};
 use std::io::{ErrorKind, IsTerminal};

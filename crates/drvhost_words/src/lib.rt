@@ -2,9 +2,9 @@
 //! opened when its turn comes, and the job done with them.
 #![tactic(auto)]
 
-pub mod answer;
 mod coloring;
 mod keeping;
+pub mod program;
 mod returned;
 mod serving;
 mod telling;

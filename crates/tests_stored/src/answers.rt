@@ -3,7 +3,7 @@
 use drvhost_devices::device::Writer;
 use drvhost_devices::surroundings::PLAIN;
 use drvhost_files::files::Disk;
-use drvhost_words::answer::{Setting, answer};
+use drvhost_words::program::{Setting, answer};
 use md5::{Digest, Md5};
 use report_progress::progress::Silent;
 use std::alloc::{AllocError, Global};
