@@ -20,6 +20,7 @@ use drvhost_runs::watching::{Observer, Taken, observe};
 use interleave::schedule::Schedule;
 use model::event::{Event, Reply};
 use std::alloc::{AllocError, Global};
+use std::mem::drop;
 use tell_changes::Moment;
 use tell_names::Book;
 use words::Words;
@@ -38,19 +39,17 @@ pub(crate) fn draw_run(
     ensures { IfOk result (λ told. IsRunDrawn machine.old.set schedule.now.threads
         schedule.now.events (ended told.end told.text)) }
 {
-    let book = Book::of(alloc, source)?;
-    let mut painter = Painter {
-        canvas: Canvas::of(alloc, figure, machine, &book)?,
-        book,
-        number: 0,
-    };
-    let Ok(end) = observe(machine, schedule, &mut painter) else {
-        return Err(AllocError);
-    };
-    Ok(Told {
-        text: ToldLines::of_bytes(alloc, painter.canvas.into_text(alloc)?)?,
-        end,
-    })
+    let mut painter = Painter::of(alloc, source, machine, figure)?;
+    match observe(machine, schedule, &mut painter) {
+        Ok(end) => Ok(Told {
+            text: painter.into_text(alloc)?,
+            end,
+        }),
+        Err(_fault) => {
+            drop(painter);
+            Err(AllocError)
+        }
+    }
 }
 
 /// What a run is drawn on.
@@ -93,6 +92,7 @@ impl Canvas {
             Canvas::Picture(drawing) => {
                 let mut picture = Words::new(alloc);
                 add_picture(&mut picture, &drawing);
+                drop(drawing);
                 Ok(picture.finish()?.into_bytes())
             }
             Canvas::Tracks(tracks) => tracks.end(),
@@ -109,6 +109,35 @@ struct Painter<'a> {
 }
 
 impl<'a> Painter<'a> {
+    /// One that has drawn nothing, by the machine before the first event, with the names and the
+    /// lines of a text.
+    fn of(
+        alloc: Global,
+        source: &'a [u8],
+        machine: &Checked,
+        figure: Figure,
+    ) -> Result<Painter<'a>, AllocError> {
+        let book = Book::of(alloc, source)?;
+        match Canvas::of(alloc, figure, machine, &book) {
+            Ok(canvas) => Ok(Painter {
+                canvas,
+                book,
+                number: 0,
+            }),
+            Err(lacking) => {
+                drop(book);
+                Err(lacking)
+            }
+        }
+    }
+
+    /// The text of what was drawn.
+    fn into_text(self, alloc: Global) -> Result<ToldLines, AllocError> {
+        let Painter { canvas, book, .. } = self;
+        drop(book);
+        ToldLines::of_bytes(alloc, canvas.into_text(alloc)?)
+    }
+
     /// Draws the next event: the moment before it, what the machine replied, and the machine after
     /// it.
     fn paint<'s>(

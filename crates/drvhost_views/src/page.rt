@@ -1,6 +1,6 @@
 //! What is told of the events of a run, line by line.
 
-ghost use Rattle.std.specs.Prelude.{◌≡◌, ◌+◌, ◌++◌, ◌<◌, ◌≤◌, ◌^◌, List, ℕ, OnOk, Some};
+ghost use Rattle.std.specs.Prelude.{◌≡◌, ◌+◌, ◌++◌, ◌<◌, ◌≤◌, ◌^◌, List, [], ℕ, IfOk, OnOk, Some};
 ghost use Rattle.report.specs.Reply.{worded_line};
 ghost use Rattle.report.specs.Word.{word_of};
 ghost use Rattle.tell_words.specs.Noted.{noted};
@@ -13,7 +13,8 @@ use drvhost_devices::manner::Detail;
 use report::event_number::EventNumber;
 use report::lines::Lines;
 use report::word::Word;
-use std::alloc::AllocError;
+use std::alloc::{AllocError, Global};
+use std::mem::drop;
 use tell_words::{Happened, Teller};
 
 /// The text of a run that is told, and what its lines are made with.
@@ -31,6 +32,43 @@ pub(crate) struct Page<'a> {
 }
 
 impl<'a> Page<'a> {
+    /// An empty one for so many events, with the names and the lines of a text.
+    pub(crate) fn of(
+        alloc: Global,
+        source: &'a [u8],
+        events: usize,
+        detail: Detail,
+        lines: &'a mut Lines,
+    ) -> Result<Page<'a>, AllocError>
+        ensures detail { IfOk result (λ page. page.detail ≡ detail) }
+        ensures number { IfOk result (λ page. page.number ≡ 0) }
+        ensures text { IfOk result (λ page. page.text ≡ []) }
+    {
+        let teller = Teller::of(alloc, source)?;
+        match ToldLines::new(alloc, events) {
+            Ok(text) => Ok(Page {
+                detail,
+                teller,
+                number: EventNumber::first(),
+                lines,
+                text,
+            }),
+            Err(lacking) => {
+                drop(teller);
+                Err(lacking)
+            }
+        }
+    }
+
+    /// What was told.
+    pub(crate) fn into_text(self) -> ToldLines
+        ensures { result ≡ self.entry.text }
+    {
+        let Page { teller, text, .. } = self;
+        drop(teller);
+        text
+    }
+
     /// Adds what is told of an event that happened so many times, by the machine after it.
     pub(crate) fn tell_times(
         &mut self,

@@ -1,7 +1,7 @@
 //! Runs that are told in words.
 
-ghost use Rattle.std.specs.Prelude.{◌≡◌, ◌+◌, ◌++◌, ◌<◌, ◌≤◌, ◌^◌, ◌||◌, [], IfOk, IsTrue, OnOk};
-ghost use Rattle.std.specs.Prelude.{codes, if◌then◌else◌, true};
+ghost use Rattle.std.specs.Prelude.{ℕ, ◌≡◌, ◌+◌, ◌++◌, ◌<◌, ◌≤◌, ◌^◌, ◌||◌, List, [], IfOk};
+ghost use Rattle.std.specs.Prelude.{IsTrue, OnOk, codes, if◌then◌else◌, true};
 ghost use Rattle.drvhost_devices.specs.declared.fault.Fault.TheVariants.{Memory};
 ghost use Rattle.drvhost_devices.specs.Answer.{ended};
 ghost use Rattle.drvhost_views.specs.Seen.{GoesUnseen, Sees};
@@ -9,6 +9,9 @@ ghost use Rattle.drvhost_views.specs.Told.{InRuns, IsRunTold, IsTelling, ToldTim
 ghost use Rattle.drvhost_views.specs.Told.{is_refused, occurs_in, times_of};
 ghost use Rattle.interleave.specs.Listing.{IsWithinLimits};
 ghost use Rattle.model.specs.Machine.{ShowsWhole};
+ghost use Rattle.model.specs.Set.{Set};
+ghost use Rattle.tell_audit.specs.declared.findings.Findings.{Findings};
+ghost use Rattle.tell_audit.specs.Findings.{AreFindings, any_of};
 
 use crate::kept::ToldLines;
 use crate::levels::{at_once, times_of};
@@ -16,20 +19,19 @@ use crate::page::Page;
 use crate::seeing::{Sight, goes_unseen};
 use checked::Checked;
 use drvhost_devices::fault::{End, Fault};
-use drvhost_devices::manner::Manner;
+use drvhost_devices::manner::{Detail, Manner};
 use drvhost_runs::follow::is_last;
 use drvhost_runs::watching::{Observer, Taken, observe};
 use interleave::schedule::Schedule;
 use laws_runs::waiting_changes_nothing;
 use model::event::{Event, Reply};
-use report::event_number::EventNumber;
 use report::lines::Lines;
 use std::alloc::{AllocError, Global};
+use std::mem::drop;
 use tell_audit::findings::Findings;
 use tell_holders::Rights;
 use tell_uses::laws::going_on_keeps_ledgers;
 use tell_uses::ledger::Ledger;
-use tell_words::Teller;
 
 /// What stands before the words of the audit.
 const AUDIT: &[u8] = b"\naudit\n";
@@ -56,38 +58,17 @@ pub(crate) fn tell_run(
     ensures { IfOk result (λ told. IsRunTold manner machine.old.set schedule.now.threads
         schedule.now.events (ended told.end told.text)) }
 {
-    let teller = Teller::of(alloc, source)?;
-    let ledger = Ledger::new(alloc, schedule.threads)?;
-    let text = ToldLines::new(alloc, schedule.events.len())?;
-    let number = EventNumber::first();
-    let sight = Sight::of(alloc, ledger);
-    let mut telling = Telling {
-        page: Page {
-            detail: manner.detail,
-            teller,
-            number,
-            lines,
-            text,
-        },
-        sight,
-        refused: false,
-    };
-    let Ok(end) = observe(machine, schedule, &mut telling) else {
-        return Err(AllocError);
-    };
-    let refused = telling.refused;
-    let ledger = telling.sight.ledger;
-    let mut teller = telling.page.teller;
-    let mut text = telling.page.text;
-    let found = Findings::of(alloc, machine, &ledger)?;
-    let rights = Rights::of(alloc, machine.set())?;
-    teller.tell_audit(alloc, machine, &found, &ledger, rights.as_ref())?;
-    add_audit(teller.words(), &mut text)?;
-    let strictly = manner.strictness.fails(refused);
-    Ok(Told {
-        text,
-        end: end_of(end, strictly, found.any()),
-    })
+    let mut telling = Telling::of(alloc, source, schedule, manner.detail, lines)?;
+    match telling.tell_all(alloc, machine, schedule, manner) {
+        Ok(end) => Ok(Told {
+            text: telling.into_text(),
+            end,
+        }),
+        Err(lacking) => {
+            drop(telling);
+            Err(lacking)
+        }
+    }
 }
 
 /// How a run ends that ends so by itself, if it is taken for one that stopped or not, and something
@@ -141,6 +122,103 @@ impl<'a> Observer<Checked> for Telling<'a> {
 }
 
 impl<'a> Telling<'a> {
+    /// One by a schedule of which nothing is told yet, with the names and the lines of a text.
+    fn of(
+        alloc: Global,
+        source: &'a [u8],
+        schedule: &Schedule,
+        detail: Detail,
+        lines: &'a mut Lines,
+    ) -> Result<Telling<'a>, AllocError>
+        ensures begun { IfOk result (λ telling. (set : Set)
+            → IsTelling telling telling set schedule.now.threads []) }
+        ensures detail { IfOk result (λ telling. telling.page.detail ≡ detail) }
+    {
+        let ledger = Ledger::new(alloc, schedule.threads)?;
+        match Page::of(alloc, source, schedule.events.len(), detail, lines) {
+            Ok(page) => Ok(Telling {
+                page,
+                sight: Sight::of(alloc, ledger),
+                refused: false,
+            }),
+            Err(lacking) => {
+                drop(ledger);
+                Err(lacking)
+            }
+        }
+    }
+
+    /// What was told.
+    fn into_text(self) -> ToldLines
+        ensures { result ≡ self.entry.page.text }
+    {
+        let Telling { page, sight, .. } = self;
+        drop(sight);
+        page.into_text()
+    }
+
+    /// Tells the whole run of a machine, and its audit, and answers how the job ends.
+    fn tell_all(
+        &mut self,
+        alloc: Global,
+        machine: &mut Checked,
+        schedule: &Schedule,
+        manner: Manner,
+    ) -> Result<End, AllocError>
+        requires begun { ShowsWhole machine.old schedule.now.threads [] }
+        requires limits { IsWithinLimits schedule.now }
+        requires fresh { IsTelling self.old self.old machine.old.set schedule.now.threads [] }
+        requires detail { self.old.page.detail ≡ manner.detail }
+        ensures { IfOk result (λ end. IsRunTold manner machine.old.set schedule.now.threads
+            schedule.now.events (ended end self.new.page.text)) }
+    {
+        let Ok(end) = observe(machine, schedule, self) else {
+            return Err(AllocError);
+        };
+        let strictly = manner.strictness.fails(self.refused);
+        let amiss = self.tell_audit(alloc, machine)?;
+        Ok(end_of(end, strictly, amiss))
+    }
+
+    /// Adds the audit of a run that was told, and answers whether something was found amiss.
+    fn tell_audit(&mut self, alloc: Global, machine: &Checked) -> Result<bool, AllocError>
+        ensures found { IfOk result (λ amiss. (found : Findings)
+            × AreFindings machine.now.set machine.now.world self.old.sight.ledger found
+            × (amiss ≡ any_of found.lost.items found.left.items found.ringed.items
+            found.disagreeing.items)) }
+        ensures audited { OnOk result ((words : List ℕ) × (self.new.page.text
+            ≡ self.old.page.text ++ (codes "\naudit\n" ++ words))) }
+    {
+        let found = Findings::of(alloc, machine, &self.sight.ledger)?;
+        let told = self.tell_found(alloc, machine, &found);
+        let amiss = found.any();
+        drop(found);
+        told?;
+        Ok(amiss)
+    }
+
+    /// Adds the audit that found this.
+    fn tell_found(
+        &mut self,
+        alloc: Global,
+        machine: &Checked,
+        found: &Findings,
+    ) -> Result<(), AllocError>
+        ensures { OnOk result ((words : List ℕ) × (self.new.page.text
+            ≡ self.old.page.text ++ (codes "\naudit\n" ++ words))) }
+    {
+        let rights = Rights::of(alloc, machine.set())?;
+        let told = self
+            .page
+            .teller
+            .tell_audit(alloc, machine, found, &self.sight.ledger, rights.as_ref());
+        drop(rights);
+        told?;
+        let page = &mut self.page;
+        add_audit(page.teller.words(), &mut page.text)?;
+        Ok(())
+    }
+
     /// Runs an event that is to happen so often, and adds what is told of it, and of the others
     /// where they do nothing. It answers how many of them have happened.
     fn tell_next(
