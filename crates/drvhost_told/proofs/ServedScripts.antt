@@ -1,17 +1,20 @@
 -- What came of a script that was served.
-use Rattle.std.proofs.Common.{◌≡◌, ◌∙◌, ℕ, List, [], ◌++◌, Ok, Err, ap}
+use Rattle.std.proofs.Common.{◌≡◌, ◌∙◌, ℕ, List, [], ◌++◌, Result, Ok, Err, IfOk, OnOk, ap}
 use Rattle.std.specs.Global.{Vec}
 use Rattle.interleave.specs.declared.schedule.ScheduleFault.{ScheduleFault}
 use Rattle.model.specs.declared.history.Command.{Command}
 use Rattle.model.specs.Set.{Set}
 use Rattle.report_json.specs.declared.fault.InputFault.TheVariants as input
+use Rattle.report_json.specs.Fault.{fault_json}
 use Rattle.report_json.specs.Line.{json_line}
 use Rattle.report_json.specs.Served.{history_json}
 use Rattle.workers_script.specs.declared.hosted.Hosted.{Hosted}
 use Rattle.workers_script.specs.Told.{Hosts}
 use Rattle.drvhost_devices.specs.Answer.{Answer}
 use Rattle.drvhost_devices.specs.Device.{Supply}
+use Rattle.drvhost_formats.proofs.Telling.{fault_line}
 use Rattle.drvhost_formats.specs.declared.outcome.Outcome.{Outcome}
+use Rattle.drvhost_formats.specs.declared.outcome.Outcome.TheVariants.{Faulty}
 use Rattle.drvhost_formats.specs.Events.{outcome_of}
 use Rattle.drvhost_formats.specs.Told.{fault_answer, told}
 use Rattle.drvhost_runs.proofs.Serving.{answered_there}
@@ -39,16 +42,42 @@ hosted_told set workers commands hosted outcome old lines h empty is added =
           ∙ answered_there set workers commands hosted h served_objects;
     }
 
--- a script was read, and its commands were served, or it is faulty
-pub served_well : (workers : ℕ) (name : List ℕ) (held : Supply) (commands : Vec Command)
-    (set : Set) (answer : Answer) → ReadsCommands held (Ok commands)
-    → IsServedInJson workers commands.items set answer
-    → IsServedJsonOf workers name held set answer
-served_well workers name held commands set answer (text, holds, says) right =
-    (text, holds, rw says right)
+pub all_hosted : {E : Type 0} (set : Set) (workers : ℕ) (commands : List Command) (hosted : Hosted)
+    (result : Result Outcome E) (old lines : List ℕ) → Hosts set workers commands hosted
+    → old ≡ []
+    → IfOk result (λ outcome. outcome
+    ≡ outcome_of (served_end hosted.told.items hosted.entries (rings_in hosted.standing)))
+    → OnOk result (lines ≡ old ++ (command_objects 0 hosted.told.items
+    ++ json_line (history_json hosted.entries (rings_in hosted.standing))))
+    → IfOk result (λ outcome. IsServedInJson workers commands set (told outcome lines))
+all_hosted set workers commands hosted (Ok outcome) old lines h empty is added =
+    hosted_told set workers commands hosted outcome old lines h empty is added
+all_hosted set workers commands hosted (Err e) old lines h empty is added = tt
 
-pub served_faulty : (workers : ℕ) (name : List ℕ) (held : Supply) (fault : ScheduleFault)
-    (set : Set) (answer : Answer) → ReadsCommands held (Err fault)
-    → answer ≡ fault_answer name (input.Script fault) → IsServedJsonOf workers name held set answer
-served_faulty workers name held fault set answer (text, holds, says) is =
-    (text, holds, rw says is)
+-- a script was read, and its commands were served, or it is faulty
+module _ (workers : ℕ) (name : List ℕ) (set : Set) (lines : List ℕ) where
+  abbrev Served : Result (Vec Command) ScheduleFault → Outcome → Type 0
+  Served read outcome =
+      (held : Supply) → ReadsCommands held read
+      → IsServedJsonOf workers name held set (told outcome lines)
+
+  pub served_well : {E : Type 0} (commands : Vec Command) (result : Result Outcome E)
+      → IfOk result (λ outcome. IsServedInJson workers commands.items set (told outcome lines))
+      → IfOk result (Served (Ok commands))
+  served_well commands (Ok outcome) right =
+      λ held reads. let (text, holds, says) = reads in (text, holds, rw says right)
+  served_well commands (Err e) right = tt
+
+  pub served_faulty : {E : Type 0} (fault : ScheduleFault) (result : Result Outcome E)
+      (old : List ℕ) → old ≡ []
+      → IfOk result (λ outcome. (outcome ≡ Faulty)
+      × (lines ≡ old ++ json_line (fault_json name (input.Script fault))))
+      → IfOk result (Served (Err fault))
+  served_faulty fault (Ok outcome) old empty added =
+      λ held reads. let (text, holds, says) = reads in (
+        text,
+        holds,
+        rw says
+        (fault_line name (input.Script fault) old lines outcome empty added.0 added.1),
+      )
+  served_faulty fault (Err e) old empty added = tt

@@ -1,7 +1,7 @@
 //! What comes of a script of commands that workers serve, as lines of JSON.
 
 ghost use Rattle.std.specs.Prelude.{◌≡◌, ◌+◌, ◌++◌, ◌⊎◌, [], IfErr, IfOk, OnOk};
-ghost use Rattle.drvhost_devices.specs.Device.{Bytes, CanCount};
+ghost use Rattle.drvhost_devices.specs.Device.{Bytes, CanCount, Supply};
 ghost use Rattle.drvhost_devices.specs.Ends.{HoldsRun};
 ghost use Rattle.drvhost_devices.specs.Fault.{reads_failed, writes_failed};
 ghost use Rattle.drvhost_devices.specs.Ready.{CanAnswer};
@@ -38,6 +38,7 @@ use report_json::fault::InputFault;
 use report_json::json_lines::JsonLines;
 use report_json::served::{ServedCommand, ServedHistory};
 use std::alloc::{AllocError, Global};
+use std::mem::drop;
 use std::sync::Wait;
 use std::thread::Threads;
 use tell_audit::findings::ringed_threads;
@@ -111,8 +112,31 @@ fn host_on<S: Source, P: Source, G: Gate + Sync, O: Sink, R: Threads + Wait + Sy
     ensures writes { O.failures out.new ≡ O.failures out.old + writes_failed result }
 {
     let bytes = read_whole(alloc, set)?;
+    host_bytes(alloc, asked, bytes.as_slice(), script, out)
+}
+
+/// Has it served over the set that the bytes of a file are, and writes the lines that gather.
+fn host_bytes<P: Source, G: Gate + Sync, O: Sink, R: Threads + Wait + Sync>(
+    alloc: Global,
+    asked: &Asked<'_, R, G>,
+    bytes: &[u8],
+    script: &mut P,
+    out: &mut O,
+) -> Result<Outcome, Fault>
+    requires workers { AreWorkers asked.now.hosting.workers }
+    requires script { CanCount (P.failures script.old) }
+    requires out { CanCount (O.failures out.old) }
+    ensures unread { (script.new ≡ script.old)
+        ⊎ HoldsRun Verification.Required (Bytes bytes.now) }
+    ensures tells { Tells (IsToldOfFile
+        (λ _. IsHostJson asked.now.hosting.workers asked.now.set.now asked.now.script.now
+        (P.supply script.old)) asked.now.set.now bytes.now)
+        (O.contents out.old) (O.contents out.new) [] [] result }
+    ensures reads { P.failures script.new ≡ P.failures script.old + reads_failed result }
+    ensures writes { O.failures out.new ≡ O.failures out.old + writes_failed result }
+{
     let mut lines = JsonLines::new(alloc);
-    let outcome = host_for(alloc, asked, bytes.as_slice(), script, &mut lines)?;
+    let outcome = host_for(alloc, asked, bytes, script, &mut lines)?;
     write_bytes(lines.bytes(), out)?;
     Ok(outcome)
 }
@@ -160,7 +184,10 @@ fn serve_set<P: Source, R: Threads + Wait + Sync, G: Gate + Sync>(
 {
     match verify(alloc, set) {
         Ok(accepted) => serve_source(alloc, asked, accepted, script, lines),
-        Err((_set, refusal)) => Ok(refuse(asked.set, refusal, lines)?),
+        Err((set, refusal)) => {
+            drop(set);
+            Ok(refuse(asked.set, refusal, lines)?)
+        }
     }
 }
 
@@ -179,11 +206,31 @@ fn serve_source<P: Source, R: Threads + Wait + Sync, G: Gate + Sync>(
         (P.supply script.old) accepted) lines.new result }
     ensures reads { P.failures script.new ≡ P.failures script.old + reads_failed result }
 {
-    let commands = match read_script(alloc, script)? {
-        Ok(commands) => commands,
-        Err(fault) => return Ok(tell_fault(asked.script, InputFault::Script(fault), lines)?),
-    };
-    Ok(serve(alloc, &asked.hosting, accepted, commands.as_slice(), lines)?)
+    let read = read_script(alloc, script)?;
+    Ok(serve_read(alloc, asked, accepted, read, lines)?)
+}
+
+/// Has what was read of a script served over an accepted set, or adds the line of its fault.
+fn serve_read<R: Threads + Wait + Sync, G: Gate + Sync>(
+    alloc: Global,
+    asked: &Asked<'_, R, G>,
+    accepted: Accepted,
+    read: Result<Vec<Command>, ScheduleFault>,
+    lines: &mut JsonLines,
+) -> Result<Outcome, AllocError>
+    requires workers { AreWorkers asked.now.hosting.workers }
+    requires empty { lines.old ≡ [] }
+    ensures { IfOk result (λ outcome. (script : Supply) → ReadsCommands script read
+        → IsServedJsonOf asked.now.hosting.workers asked.now.script.now script accepted
+        (told outcome lines.new)) }
+{
+    match read {
+        Ok(commands) => serve(alloc, &asked.hosting, accepted, commands.as_slice(), lines),
+        Err(fault) => {
+            drop(accepted);
+            tell_fault(asked.script, InputFault::Script(fault), lines)
+        }
+    }
 }
 
 /// Has commands served over an accepted set, and adds the lines of what came of them.
@@ -205,9 +252,21 @@ fn serve<R: Threads + Wait + Sync, G: Gate + Sync>(
         gate,
     } = *hosting;
     match serve_script(runtime, alloc, accepted, workers, commands, gate) {
-        Ok(hosted) => Ok(tell_hosted(alloc, &hosted, lines)?),
+        Ok(hosted) => tell_served(alloc, hosted, lines),
         Err(OutOfMemory) => Err(AllocError),
     }
+}
+
+/// Adds the lines of commands that were served, and of their history, and ends what held them.
+fn tell_served(alloc: Global, hosted: Hosted, lines: &mut JsonLines) -> Result<Outcome, AllocError>
+    ensures outcome { IfOk result (λ outcome. outcome
+        ≡ outcome_of (served_end hosted.told.items hosted.entries (rings_in hosted.standing))) }
+    ensures lines { OnOk result (lines.new ≡ lines.old ++ (command_objects 0 hosted.told.items
+        ++ json_line (history_json hosted.entries (rings_in hosted.standing)))) }
+{
+    let told = tell_hosted(alloc, &hosted, lines);
+    drop(hosted);
+    told
 }
 
 /// The commands that the text of a source lists, or its fault.

@@ -1,14 +1,16 @@
 //! A run that is told, and its audit, as lines of JSON.
 
-ghost use Rattle.std.specs.Prelude.{◌≡◌, ◌+◌, ◌⊎◌, []};
+ghost use Rattle.std.specs.Prelude.{◌≡◌, ◌+◌, ◌⊎◌, [], IfErr, IfOk};
 ghost use Rattle.drvhost_devices.specs.Device.{CanCount};
 ghost use Rattle.drvhost_devices.specs.Ends.{HoldsRun};
 ghost use Rattle.drvhost_devices.specs.Fault.{reads_failed};
 ghost use Rattle.drvhost_devices.specs.Ready.{CanAnswer};
 ghost use Rattle.drvhost_sets.specs.Chosen.{set_chosen};
 ghost use Rattle.drvhost_sets.specs.Devices.{AnswersOver};
+ghost use Rattle.drvhost_formats.specs.Told.{told};
 ghost use Rattle.drvhost_told.specs.Made.{Makes};
-ghost use Rattle.drvhost_told.specs.Tell.{IsRunToldOf, IsTellJsonOf};
+ghost use Rattle.drvhost_told.specs.Tell.{IsRunToldOf, IsScheduleTold, IsTellJsonOf};
+ghost use Rattle.interleave.specs.Listing.{IsWithinLimits};
 
 use crate::telling::tell_run;
 use drvhost_devices::device::{Sink, Source};
@@ -21,9 +23,12 @@ use drvhost_formats::outcome::Outcome;
 use drvhost_formats::trace::read_schedule;
 use drvhost_sets::judged::Chosen;
 use drvhost_sets::taking::Taking;
+use image::DriverSet;
+use interleave::schedule::{Schedule, ScheduleFault};
 use report_json::fault::InputFault;
 use report_json::json_lines::JsonLines;
 use std::alloc::Global;
+use std::mem::drop;
 
 /// A run that is to be told: the names of its files, of which sets, and how.
 #[derive(Clone, Copy)]
@@ -120,13 +125,30 @@ fn tell_chosen<P: Source>(
 {
     // The machine that looks at each step wants a set of its own.
     let set = chosen.into_set(alloc)?;
-    let schedule = match read_schedule(alloc, schedule)? {
-        Ok(schedule) => schedule,
+    let read = read_schedule(alloc, schedule)?;
+    tell_read(alloc, asked, bytes, set, read, lines)
+}
+
+/// Tells the run of a set by the schedule that was read, or its fault.
+fn tell_read(
+    alloc: Global,
+    asked: Asked<'_>,
+    bytes: &[u8],
+    set: DriverSet,
+    read: Result<Schedule, ScheduleFault>,
+    lines: &mut JsonLines,
+) -> Result<Outcome, Fault>
+    requires limits { IfOk read IsWithinLimits }
+    requires empty { lines.old ≡ [] }
+    ensures made { IfOk result
+        (λ outcome. IsScheduleTold asked.entry read set (told outcome lines.new)) }
+    ensures fault { IfErr result (λ fault. fault ≡ Fault.Memory) }
+{
+    match read {
+        Ok(schedule) => tell_run(alloc, bytes, set, &schedule, asked.strictness, lines),
         Err(fault) => {
-            return Ok(tell_fault(asked.schedule, InputFault::Schedule(fault), lines)?);
+            drop(set);
+            Ok(tell_fault(asked.schedule, InputFault::Schedule(fault), lines)?)
         }
-    };
-    let told = tell_run(alloc, bytes, set, &schedule, asked.strictness)?;
-    *lines = told.lines;
-    Ok(told.outcome)
+    }
 }

@@ -1,7 +1,7 @@
 //! The events of a run, as an observer of it has them told.
 
 ghost use Rattle.std.specs.Prelude.{◌≡◌, ◌||◌, [], IfErr, IfOk};
-ghost use Rattle.drvhost_told.specs.Tell.{IsRunTold, is_stopped, outcome_by};
+ghost use Rattle.drvhost_told.specs.Tell.{IsRunTold, IsTelling, is_stopped, outcome_by};
 ghost use Rattle.drvhost_formats.specs.Told.{told};
 ghost use Rattle.interleave.specs.Listing.{IsWithinLimits};
 ghost use Rattle.model.specs.Machine.{ShowsWhole};
@@ -18,16 +18,10 @@ use interleave::schedule::Schedule;
 use model::event::Event;
 use report_json::json_lines::JsonLines;
 use std::alloc::{AllocError, Global};
+use std::mem::{drop, swap};
 use tell_audit::findings::Findings;
 use tell_json::audit::ToldAudit;
 use tell_json::telling::Telling;
-
-/// The lines of a run that was told, and how the job ends.
-#[derive(Drop)]
-pub(crate) struct ToldRun {
-    pub(crate) lines: JsonLines,
-    pub(crate) outcome: Outcome,
-}
 
 /// A run as it is told.
 #[derive(Drop)]
@@ -58,29 +52,45 @@ impl<'a> Observer<Checked> for Watch<'a> {
 }
 
 /// Tells the run of a set by a schedule, up to an event that stops it, and its audit: with the
-/// names and the lines of the bytes that the set was read from.
+/// names and the lines of the bytes that the set was read from. Its lines take the place of those
+/// that were there.
 pub(crate) fn tell_run(
     alloc: Global,
     bytes: &[u8],
     set: DriverSet,
     schedule: &Schedule,
     strictness: Strictness,
-) -> Result<ToldRun, Fault>
+    lines: &mut JsonLines,
+) -> Result<Outcome, Fault>
     requires limits { IsWithinLimits schedule.now }
     ensures told { IfOk result
-        (λ run. IsRunTold strictness set schedule.now (told run.outcome run.lines)) }
+        (λ outcome. IsRunTold strictness set schedule.now (told outcome lines.new)) }
     ensures fault { IfErr result (λ fault. fault ≡ Fault.Memory) }
 {
     let source = source_of(alloc, bytes, &set)?;
+    Ok(tell_set(alloc, source.as_slice(), set, schedule, strictness, lines)?)
+}
+
+/// Tells the run of a set by a schedule, and its audit.
+fn tell_set(
+    alloc: Global,
+    source: &[u8],
+    set: DriverSet,
+    schedule: &Schedule,
+    strictness: Strictness,
+    lines: &mut JsonLines,
+) -> Result<Outcome, AllocError>
+    requires limits { IsWithinLimits schedule.now }
+    ensures { IfOk result
+        (λ outcome. IsRunTold strictness set schedule.now (told outcome lines.new)) }
+{
     match Checked::new(alloc, set, schedule.threads) {
-        Ok(mut machine) => Ok(tell_on(
-            alloc,
-            source.as_slice(),
-            &mut machine,
-            schedule,
-            strictness,
-        )?),
-        Err((_set, _refused)) => Err(Fault::Memory),
+        Ok(mut machine) => {
+            let told = tell_on(alloc, source, &mut machine, schedule, strictness, lines);
+            drop(machine);
+            told
+        }
+        Err((_set, _refused)) => Err(AllocError),
     }
 }
 
@@ -91,25 +101,43 @@ fn tell_on(
     machine: &mut Checked,
     schedule: &Schedule,
     strictness: Strictness,
-) -> Result<ToldRun, AllocError>
+    lines: &mut JsonLines,
+) -> Result<Outcome, AllocError>
     requires begun { ShowsWhole machine.old schedule.now.threads [] }
     requires limits { IsWithinLimits schedule.now }
     ensures { IfOk result
-        (λ run. IsRunTold strictness machine.old.set schedule.now (told run.outcome run.lines)) }
+        (λ outcome. IsRunTold strictness machine.old.set schedule.now (told outcome lines.new)) }
 {
     let telling = Telling::of(alloc, source, schedule.threads)?;
     let mut watch = Watch { telling };
-    let Ok(end) = observe(machine, schedule, &mut watch) else {
+    let outcome = tell_watched(alloc, machine, schedule, strictness, &mut watch);
+    swap(lines, &mut watch.telling.lines);
+    drop(watch);
+    outcome
+}
+
+/// Tells the run to an observer that was told nothing yet, and adds the line of its audit.
+fn tell_watched(
+    alloc: Global,
+    machine: &mut Checked,
+    schedule: &Schedule,
+    strictness: Strictness,
+    watch: &mut Watch<'_>,
+) -> Result<Outcome, AllocError>
+    requires begun { ShowsWhole machine.old schedule.now.threads [] }
+    requires limits { IsWithinLimits schedule.now }
+    requires fresh { IsTelling watch.old.telling machine.old.set schedule.now.threads [] }
+    ensures { IfOk result (λ outcome. IsRunTold strictness machine.old.set schedule.now
+        (told outcome watch.new.telling.lines)) }
+{
+    let Ok(end) = observe(machine, schedule, watch) else {
         return Err(AllocError);
     };
-    let mut telling = watch.telling;
+    let telling = &mut watch.telling;
     let found = Findings::of(alloc, machine, &telling.ledger)?;
     telling.lines.add(&ToldAudit { found: &found })?;
     let strictly = strictness.fails(telling.refused);
-    Ok(ToldRun {
-        lines: telling.lines,
-        outcome: outcome_of(end, strictly, found.any()),
-    })
+    Ok(outcome_of(end, strictly, found.any()))
 }
 
 /// How the job ends whose run ended so, if it is taken for one that stopped or not, and something

@@ -1,19 +1,30 @@
-use Rattle.std.proofs.Common.{Err, Result, subst}
-use Rattle.interleave.specs.declared.schedule.Schedule.{Schedule}
-use Rattle.interleave.specs.declared.schedule.ScheduleFault.{ScheduleFault}
-use Rattle.report_json.specs.declared.fault.InputFault.TheVariants as input
-use Rattle.drvhost_formats.specs.Trace.{ReadsIn}
-use Rattle.drvhost_formats.proofs.Telling.{fault_line}
+use Rattle.std.proofs.Common.{arith}
+use Rattle.std.proofs.lemmas.Result.{IfOk-weaker}
+use Rattle.drvhost_formats.specs.declared.outcome.Outcome.{Outcome}
+use Rattle.drvhost_formats.specs.Told.{told}
+use Rattle.drvhost_sets.specs.Chosen.{set_chosen}
+use Rattle.drvhost_told.specs.Tell.{IsRunToldOf, IsScheduleTold}
+use Rattle.drvhost_told.proofs.Making.{made_in_memory, none_read}
 use Rattle.drvhost_told.proofs.tell.tell_chosen.Goals as goal
 
-pub returns-in-Err-clause-made : goal.returns-in-Err-clause-made
-returns-in-Err-clause-made g c =
+pub returns-clause-made : goal.returns-clause-made
+returns-clause-made g c =
+    let asked = c.args.asked in
     let held = g.P.Source.supply c.args.schedule.now in
-    let fault = c.in-Err.fault in
-    let is = c.in_ok-tell_fault-in-Err.ensures in
-    let Reads : Result Schedule ScheduleFault → Type 0 = λ read. ReadsIn held read in (
-      Err fault,
-      subst Reads c.in-Err.is c.in_ok-schedule.ensures.schedule,
-      fault_line c.args.asked.schedule.now (input.Schedule fault) c.args.lines.now
-          c.tell_fault.new.lines c.in_ok-tell_fault-in-Err.field-0 c.requires.empty is.0 is.1,
+    let read = c.in_ok-read.read in
+    let set = set_chosen c.args.chosen in
+    let lines = c.tell_read.new.lines in
+    made_in_memory (IsRunToldOf asked held set) lines c.tell_read.result
+    (IfOk-weaker c.tell_read.result
+    (λ (outcome : Outcome). IsScheduleTold asked read set (told outcome lines))
+    (λ (outcome : Outcome). IsRunToldOf asked held set (told outcome lines))
+    (λ outcome right. (read, c.in_ok-read.ensures.schedule, right))
+    (rw c.in_ok-set.ensures at c.tell_read.ensures.made)) c.tell_read.ensures.fault
+
+pub returns-clause-reads : goal.returns-clause-reads
+returns-clause-reads g c =
+    omega (
+      arith,
+      c.in_ok-read.ensures.reads,
+      none_read c.tell_read.result c.tell_read.ensures.fault,
     )

@@ -1,19 +1,11 @@
 use Rattle.std.proofs.Common.{}
-use Rattle.drvhost_told.proofs.ToldRuns.{run_told}
 use Rattle.drvhost_told.proofs.telling.tell_on.Goals as goal
 
-pub observe-requires-clause-fresh : goal.observe-requires-clause-fresh
-observe-requires-clause-fresh c =
+pub tell_watched-outcome-requires-clause-fresh : goal.tell_watched-outcome-requires-clause-fresh
+tell_watched-outcome-requires-clause-fresh c =
     record {
       numbered = c.in_ok-telling.ensures.number;
       told = c.in_ok-telling.ensures.lines;
       refused = c.in_ok-telling.ensures.refused;
       tells = c.in_ok-telling.ensures.ledger c.args.machine.now.set;
     }
-
-pub returns : goal.returns
-returns c =
-    let (past, runs, shown, told) = c.in-Ok.ensures in
-    run_told c.args.strictness c.args.machine.now.set c.args.schedule.now past _ _ _ _ _ _ _ runs
-    shown told c.in_ok-found.ensures c.any.ensures c.in_ok-add.ensures.added
-    (rw c.fails-strictly.ensures at c.outcome_of.ensures)
