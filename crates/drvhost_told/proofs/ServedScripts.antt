@@ -78,6 +78,6 @@ module _ (workers : ℕ) (name : List ℕ) (set : Set) (lines : List ℕ) where
         text,
         holds,
         rw says
-        (fault_line name (input.Script fault) old lines outcome empty added.0 added.1),
+            (fault_line name (input.Script fault) old lines outcome empty added.0 added.1),
       )
   served_faulty fault (Err e) old empty added = tt
