@@ -10,13 +10,12 @@ use Rattle.report_json.specs.Line.{json_line}
 use Rattle.report_json.specs.Served.{history_json}
 use Rattle.workers_script.specs.declared.hosted.Hosted.{Hosted}
 use Rattle.workers_script.specs.Told.{Hosts}
-use Rattle.drvhost_devices.specs.Answer.{Answer}
 use Rattle.drvhost_devices.specs.Device.{Supply}
 use Rattle.drvhost_formats.proofs.Telling.{fault_line}
 use Rattle.drvhost_formats.specs.declared.outcome.Outcome.{Outcome}
 use Rattle.drvhost_formats.specs.declared.outcome.Outcome.TheVariants.{Faulty}
 use Rattle.drvhost_formats.specs.Events.{outcome_of}
-use Rattle.drvhost_formats.specs.Told.{fault_answer, told}
+use Rattle.drvhost_formats.specs.Told.{told}
 use Rattle.drvhost_runs.proofs.Serving.{answered_there}
 use Rattle.drvhost_runs.specs.Served.{rings_in, served_end}
 use Rattle.drvhost_told.specs.Served.{IsServedInJson, IsServedJsonOf, ReadsCommands, command_objects, served_objects}
