@@ -9,10 +9,10 @@ use Rattle.model.specs.Typable.{IsFirstFault, IsTypable}
 use Rattle.report_json.specs.Line.{json_line}
 use Rattle.verifier_evidence.specs.declared.evidence.Evidence.{Evidence}
 use Rattle.verifier_evidence.specs.Evidence.{IsEvidence}
-use Rattle.verifier_warnings.specs.Orders.{TellsOrders}
 use Rattle.verifier_words.specs.Faults.{AreFaults}
 use Rattle.drvhost_devices.specs.Answer.{Answer}
 use Rattle.drvhost_devices.specs.Device.{Supply}
+use Rattle.drvhost_sets.specs.Explained.{TellsLocks}
 use Rattle.drvhost_evidence.specs.declared.shown.Shown.{Shown}
 use Rattle.drvhost_evidence.specs.Regions.{refusal_region}
 use Rattle.drvhost_evidence.specs.Shown.{IsShownBy}
@@ -25,14 +25,13 @@ use Rattle.drvhost_formats.specs.Explanation.{Lesson, acceptance_explained_json,
 use Rattle.answer.specs.Names.{routine_names}
 use Rattle.drvhost_formats.specs.Told.{IsToldOf, told, told_line}
 
--- an accepted set: its routines with their names, and words that tell whether its drivers take their
--- locks in order
+-- an accepted set: its routines with their names, and words that tell of its drivers' locks
 pub record IsAcceptanceExplained (name bytes : List ℕ) (set : Set) (answer : Answer) : Type 0 where
   pub typable : IsTypable set
   pub names : List (String Global)
   pub named : map string_bytes names ≡ map utf8_lossy (routine_names bytes)
   pub words : List ℕ
-  pub tells : TellsOrders set words
+  pub tells : TellsLocks set words
   pub is : answer ≡ told_line Complete
       (acceptance_explained_json name (with_names (certified_routines set) names) words)
 

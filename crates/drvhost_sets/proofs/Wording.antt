@@ -3,7 +3,6 @@ use Rattle.std.proofs.Common.{◌≡◌, ◌≢◌, ◌∙◌, ◌⊎◌, ◌+�
 use Rattle.std.proofs.lemmas.List.{append-nil, map_push, take_all, take_more}
 use Rattle.std.specs.Io.KnownBytes.{Appends}
 use Rattle.verifier_words.specs.Faults.{refusals}
-use Rattle.verifier_warnings.specs.Orders.{TellsOrders}
 use Rattle.verifier_words.specs.declared.telling.Told.{Told}
 use Rattle.model.specs.declared.abs.Refusal.{Refusal}
 use Rattle.model.specs.declared.abs.Rule.TheVariants.{Memory}
@@ -18,7 +17,7 @@ use Rattle.drvhost_devices.specs.Device.{Adds, TakesBeginning}
 use Rattle.drvhost_devices.specs.Fault.{Goes}
 use Rattle.drvhost_devices.proofs.Writing.{adds_all, adds_breaks, adds_line, begins_before}
 use Rattle.drvhost_devices.specs.declared.extent.Extent.{Extent}
-use Rattle.drvhost_sets.specs.Explained.{AreFurther, AreWordsOf, AreWordsOn, IsAcceptanceExplained, IsBlock, IsRefusalExplained}
+use Rattle.drvhost_sets.specs.Explained.{AreFurther, AreWordsOf, AreWordsOn, IsAcceptanceExplained, IsBlock, IsRefusalExplained, TellsLocks}
 
 -- the lines of a verdict and words behind them are written, or a beginning of them
 pub goes_behind : (R : Answer → Type 0) (b m n : Option (List ℕ)) (l verdict words : List ℕ)
@@ -45,7 +44,7 @@ broken_behind R b m n l verdict words end right adds begins =
 
 -- a beginning of the lines of an accepted set alone goes out
 pub accepted_broken : (set : Set) (words : List ℕ) (b n : Option (List ℕ)) → IsTypable set
-    → TellsOrders set words → TakesBeginning b n (acceptance set)
+    → TellsLocks set words → TakesBeginning b n (acceptance set)
     → Goes (IsAcceptanceExplained set) b n [] [] (Err Write)
 accepted_broken set words b n typable told begins = (
   ended Complete (acceptance set ++ words),

@@ -1,6 +1,7 @@
 -- What `explain` answers: the verdict, with words behind it.
 use Rattle.std.specs.Prelude.{ℕ, ◌≡◌, ◌≢◌, ◌++◌, ◌⊎◌, List, [], ◌∷◌, Result, Ok, Err, codes}
 use Rattle.verifier_words.specs.Faults.{AreFaults}
+use Rattle.verifier_warnings.specs.Lines.{TellsEach}
 use Rattle.verifier_warnings.specs.Orders.{TellsOrders}
 use Rattle.drvhost_devices.specs.Answer.{Answer, FileSays, acceptance, ended, faulty}
 use Rattle.drvhost_devices.specs.Device.{Holds, Supply}
@@ -43,12 +44,15 @@ IsRefusalExplained extent set answer =
     (refusal : Refusal) × (words : List ℕ) × IsFirstFault set refusal × AreWordsOf extent set words
     × (answer ≡ ended Stopped (refusal_line refusal ++ words))
 
--- an accepted set: what `check` says, with words behind it that tell whether its drivers take their
--- locks in order
+-- words tell whether the drivers of a set take their locks in order, and of each in which
+abbrev pub TellsLocks : Set → List ℕ → Type 0
+TellsLocks set words = TellsOrders set words × TellsEach set words
+
+-- an accepted set: what `check` says, with such words behind it
 abbrev pub IsAcceptanceExplained : Set → Answer → Type 0
 IsAcceptanceExplained set answer =
     IsTypable set
-    × ((words : List ℕ) × TellsOrders set words
+    × ((words : List ℕ) × TellsLocks set words
     × (answer ≡ ended Complete (acceptance set ++ words)))
 
 -- the verdict on a set, with words behind it
