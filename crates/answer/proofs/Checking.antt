@@ -1,13 +1,12 @@
 -- What is judged and said is what `check` answers, as text and in JSON.
-use Rattle.std.proofs.Common.{◌≡◌, ◌⊎◌, ℕ, List, inl, inr, refl, subst, Result, Ok, Err}
+use Rattle.std.proofs.Common.{◌≡◌, ◌⊎◌, ℕ, List, inl, inr, subst, Ok, Err}
 use Rattle.std.specs.Borrow.{Bor}
-use Rattle.std.specs.Prelude.{IfOk}
 use Rattle.model.specs.Set.{Set}
 use Rattle.model.specs.Typable.{IsTypable}
 use Rattle.report_json.specs.declared.fault.InputFault.{InputFault}
 use Rattle.drvhost_devices.specs.declared.fault.End.TheVariants.{Complete}
 use Rattle.drvhost_devices.specs.Answer.{Answer, FileSays, IsOfFile, IsRefused, IsVerdict, acceptance, ended, faulty}
-use Rattle.drvhost_devices.specs.Device.{Bytes, Holds, Supply}
+use Rattle.drvhost_devices.specs.Device.{Holds, Supply}
 use Rattle.drvhost_devices.specs.Ends.{IsCheckOf}
 use Rattle.answer.specs.Check.{IsAcceptanceJson, IsCheckJsonOf, IsRefusalJson, IsVerdictJson}
 use Rattle.answer.specs.Told.{IsFaultIn, IsToldOfFile, fault_answer}
@@ -37,16 +36,15 @@ json_of name bytes answer (inl (set, says, inl (typable, is))) = (Ok set, says, 
 json_of name bytes answer (inl (set, says, inr is)) = (Ok set, says, inr is)
 json_of name bytes answer (inr (fault, says, is)) = (Err fault, says, is)
 
--- for bytes in memory
-pub text_each : {E : Type 0} (bytes : List ℕ) (r : Result Answer E)
-    → IfOk r (IsJudgedText bytes) → IfOk r (IsCheckOf (Bytes bytes))
-text_each bytes (Ok answer) h = (bytes, refl, text_of bytes answer h)
-text_each bytes (Err refused) h = h
-
-pub json_each : {E : Type 0} (name bytes : List ℕ) (r : Result Answer E)
-    → IfOk r (IsJudgedJson name bytes) → IfOk r (IsCheckJsonOf name (Bytes bytes))
-json_each name bytes (Ok answer) h = (bytes, refl, json_of name bytes answer h)
-json_each name bytes (Err refused) h = h
+-- a job on a file that was read answers for its bytes
+pub read_for : (Right : List ℕ → Answer → Type 0) (name : List ℕ) (supply : Supply)
+    (answer : Answer)
+    → ((bytes : List ℕ) × Holds supply bytes
+    × ((called held : Bor (List ℕ)) × (called.now ≡ name) × (held.now ≡ bytes)
+    × Right held.now answer))
+    → (bytes : List ℕ) × Holds supply bytes × Right bytes answer
+read_for Right name supply answer (bytes, holds, (called, held, one, same, right)) =
+    (bytes, holds, subst (λ (b : List ℕ). Right b answer) same right)
 
 -- for a file that was read
 pub text_for : (name : List ℕ) (supply : Supply) (answer : Answer)
@@ -54,9 +52,9 @@ pub text_for : (name : List ℕ) (supply : Supply) (answer : Answer)
     × ((called held : Bor (List ℕ)) × (called.now ≡ name) × (held.now ≡ bytes)
     × IsJudgedText held.now answer))
     → IsCheckOf supply answer
-text_for name supply answer (bytes, holds, (called, held, one, same, right)) =
-    let P : List ℕ → Type 0 = λ b. IsJudgedText b answer in
-    (bytes, holds, text_of bytes answer (subst P same right))
+text_for name supply answer read =
+    let is = read_for IsJudgedText name supply answer read in
+    (is.0, is.1, text_of is.0 answer is.2)
 
 pub json_for : (name : List ℕ) (supply : Supply) (answer : Answer)
     → ((bytes : List ℕ) × Holds supply bytes

@@ -1,5 +1,5 @@
 -- An answer that is right went to its writers, or there was none.
-use Rattle.std.proofs.Common.{◌≡◌, ◌+◌, ◌⊎◌, ℕ, List, Option, Result, Ok, Err, arith, inl, inr, refl}
+use Rattle.std.proofs.Common.{◌≡◌, ◌+◌, ◌⊎◌, ℕ, List, Option, Result, Ok, arith, inl, inr, refl}
 use Rattle.std.specs.Prelude.{IfOk}
 use Rattle.drvhost_devices.specs.Answer.{Answer}
 use Rattle.drvhost_devices.specs.declared.fault.Fault.{Fault}
@@ -34,12 +34,6 @@ answers_rightly R Q k m i j w x b n Tells status a on same =
       tells = a.tells;
       ends = ends_rightly R Q a.reads a.writes b n status a.told on a.ends;
     }
-
--- where more answers are right, and there is one or none
-pub each_rightly : {E : Type 0} (R Q : Answer → Type 0) (r : Result Answer E)
-    → ((answer : Answer) → R answer → Q answer) → IfOk r R → IfOk r Q
-each_rightly R Q (Ok answer) on h = on answer h
-each_rightly R Q (Err refused) on h = h
 
 -- an answer that there is
 pub found : {E : Type 0} (Right : Answer → Type 0) (r : Result Answer E) (answer : Answer)

@@ -7,9 +7,9 @@ ghost use Rattle.answer.specs.Check.{IsCheckJsonOf};
 
 use crate::as_json::Json;
 use crate::as_text::Text;
-use crate::content::{Content, Named};
+use crate::content::Named;
+use crate::deliver::answer_to;
 use crate::form::Form;
-use crate::job::Job;
 use crate::judged::Judged;
 use crate::set::OnSet;
 use drvhost_devices::told::Told;
@@ -48,11 +48,7 @@ pub fn check(alloc: Global, bytes: &[u8]) -> Result<Told, AllocError>
         job: Judgement,
         form: Text,
     };
-    let set = Named {
-        name: "",
-        content: Content::Whole(bytes),
-    };
-    judged.answer(alloc, &set, &[])
+    Ok(answer_to(&judged, alloc, "", bytes)?)
 }
 
 /// The verdict on the set that the bytes of the file of a name name, as a line of JSON.
@@ -67,9 +63,5 @@ pub fn check_json(alloc: Global, name: &str, bytes: &[u8]) -> Result<Told, Alloc
         job: Judgement,
         form: Json,
     };
-    let set = Named {
-        name,
-        content: Content::Whole(bytes),
-    };
-    judged.answer(alloc, &set, &[])
+    Ok(answer_to(&judged, alloc, name, bytes)?)
 }

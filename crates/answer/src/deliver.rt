@@ -41,14 +41,19 @@ pub fn deliver<J: Job, S: Source, O: Sink, E: Sink>(
 }
 
 /// What a job answers for the file of a name that has these bytes.
-fn answer_to<J: Job>(job: &J, alloc: Global, name: &str, bytes: &[u8]) -> Result<Told, AllocError>
+pub(crate) fn answer_to<J: Job>(
+    job: &J,
+    alloc: Global,
+    name: &str,
+    bytes: &[u8],
+) -> Result<Told, AllocError>
     ensures { IfOk result (IsAnswerTo J.Job job.now name.now bytes.now) }
 {
     let set = Named {
         name,
         content: Content::Whole(bytes),
     };
-    job.answer(alloc, &set, &[])
+    Ok(job.answer(alloc, &set, &[])?)
 }
 
 /// Writes an answer, or tells that there was no memory for one. The answer is the exit status: 2

@@ -1,10 +1,12 @@
-//! A job on the set of a file: the file is read and its set is judged, and what keeps the job from it
-//! is said here, once.
+//! A job on the set of a file, which has to be accepted or needn't be: what keeps the job from it is
+//! said here, once.
 
 ghost use Rattle.std.specs.Prelude.{IfOk};
-ghost use Rattle.drvhost_devices.specs.Answer.{FileSays};
-ghost use Rattle.answer.specs.Judged.{IsOfBytes, IsOfSet};
+ghost use Rattle.model.specs.Set.{Set};
+ghost use Rattle.drvhost_devices.specs.Answer.{Answer};
+ghost use Rattle.answer.specs.Judged.{IsOfSet};
 
+use crate::as_text::Text;
 use crate::content::{Content, Named};
 use crate::form::Form;
 use crate::job::Job;
@@ -37,7 +39,10 @@ impl<F: Form, J: OnSet<F>> Job for Judged<J, F> {
         inputs: &[Named<'_>],
     ) -> Result<Told, AllocError> {
         match set.content {
-            Content::Whole(bytes) => self.of_bytes(alloc, set.name, bytes, inputs),
+            Content::Whole(bytes) => match said_in(alloc, bytes)? {
+                Ok(found) => self.of_set(alloc, set.name, bytes, found, inputs),
+                Err(fault) => self.form.faulty(alloc, set.name, bytes, fault),
+            },
             Content::Unread => self.form.unread(alloc, set.name),
             Content::Unopened => self.form.unopened(alloc, set.name),
         }
@@ -45,25 +50,7 @@ impl<F: Form, J: OnSet<F>> Job for Judged<J, F> {
 }
 
 impl<F: Form, J: OnSet<F>> Judged<J, F> {
-    /// The answer for the bytes of the file of a name.
-    fn of_bytes(
-        &self,
-        alloc: Global,
-        name: &str,
-        bytes: &[u8],
-        inputs: &[Named<'_>],
-    ) -> Result<Told, AllocError>
-        ensures { IfOk result (IsOfBytes F.Form self.now.form name.now
-            (λ bytes found. J.right self.now.job self.now.form name.now bytes found inputs.now)
-            bytes.now) }
-    {
-        match said_in(alloc, bytes)? {
-            Ok(set) => self.of_set(alloc, name, bytes, set, inputs),
-            Err(fault) => self.form.faulty(alloc, name, bytes, fault),
-        }
-    }
-
-    /// The answer for the set that they name.
+    /// The answer for the set that the bytes of the file of a name name.
     fn of_set(
         &self,
         alloc: Global,
@@ -86,6 +73,48 @@ impl<F: Form, J: OnSet<F>> Judged<J, F> {
                 }
                 self.form.refused(alloc, name, bytes, &set, &refusal)
             }
+        }
+    }
+}
+
+/// What is done with any set.
+pub trait OnAnySet {
+    // The right answers for a set.
+    ghost right: { Self → Set → Answer → Type 0 };
+
+    /// The answer for a set.
+    ///
+    /// # Errors
+    ///
+    /// When memory runs out.
+    fn on(&self, alloc: Global, set: &DriverSet) -> Result<Told, AllocError>
+        ensures { IfOk result (right self.now set.now) };
+}
+
+/// A job on a set that needn't be accepted. What keeps the job from it is said as text.
+#[derive(Drop)]
+pub struct Unjudged<J> {
+    pub job: J,
+}
+
+impl<J: OnAnySet> Job for Unjudged<J> {
+    ghost use Rattle.answer.specs.Judged.{IsOfAny};
+
+    ghost right = { λ unjudged set _. IsOfAny (J.right unjudged.job) set.name.now set.content };
+
+    fn answer(
+        &self,
+        alloc: Global,
+        set: &Named<'_>,
+        _inputs: &[Named<'_>],
+    ) -> Result<Told, AllocError> {
+        match set.content {
+            Content::Whole(bytes) => match said_in(alloc, bytes)? {
+                Ok(found) => self.job.on(alloc, &found),
+                Err(fault) => Text.faulty(alloc, set.name, bytes, fault),
+            },
+            Content::Unread => Text.unread(alloc, set.name),
+            Content::Unopened => Text.unopened(alloc, set.name),
         }
     }
 }

@@ -12,6 +12,7 @@ pub mod deliver;
 pub mod form;
 pub mod job;
 pub mod judged;
+pub mod list;
 pub mod names;
 pub mod reading;
 pub mod set;

@@ -1,6 +1,6 @@
 //! What the program answers of the driver set of one file, over any devices: the verdict on it,
-//! explained, the warnings of an accepted one, its listing and its image; and a rule in words, and
-//! which program this is.
+//! explained, the warnings of an accepted one, and its image; and a rule in words, and which program
+//! this is.
 #![tactic(auto)]
 
 pub mod advising;
@@ -10,7 +10,6 @@ mod image_words;
 pub mod job;
 pub mod judged;
 pub mod laws;
-pub mod list;
 pub mod rewriting;
 pub mod rule;
 pub mod showing;

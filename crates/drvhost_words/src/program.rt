@@ -28,8 +28,10 @@ use crate::telling::{Shown, tell_shown};
 use crate::unread::{tell_if_unread, tell_which_unread};
 use crate::work::Work;
 use answer::as_json::Json;
-use answer::deliver::write_answer;
+use answer::deliver::{deliver, write_answer};
 use answer::form::Form;
+use answer::judged::Unjudged;
+use answer::list::Listing;
 use drvhost_commands::job::{
     FileNames, Job, JobFault, Judged, Judging, Page, Task, Testing, Way, refuse_unknown_words,
     refuse_words,
@@ -53,7 +55,6 @@ use drvhost_mends::mend::{self, mend};
 use drvhost_runs::trace::trace;
 use drvhost_sarif::logging::{Log, log_paths};
 use drvhost_scenarios::schedule::schedule;
-use drvhost_sets::list::list;
 use drvhost_sets::rewriting::rewrite;
 use drvhost_sets::rule::{explain_lock_order, explain_rule};
 use drvhost_sets::version::version;
@@ -464,7 +465,7 @@ fn fulfil<S: Source, O: Sink, E: Sink, P: Progress>(
     let alloc = beside.alloc;
     match task {
         Task::Mend(tries) => mend(alloc, mend::Asked { tries }, set, out, err),
-        Task::List => list(alloc, set, out, err),
+        Task::List => deliver(&Unjudged { job: Listing }, alloc, "", set, out, err),
         Task::Hunt(reach) => {
             let asked = beside.hunting(hunt::Way::Quick, reach);
             hunt_by(alloc, &asked, set, out, err)

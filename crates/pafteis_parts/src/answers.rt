@@ -146,11 +146,7 @@ pub fn mend(alloc: Global, asked: Asked, set: &[u8]) -> Result<Told, OutOfMemory
 pub fn list(alloc: Global, set: &[u8]) -> Result<Told, OutOfMemory>
     ensures { IfOk result (IsListOf (Bytes set.now)) }
 {
-    let mut source = Reader::new(Some(set));
-    let mut output = Writer::new(Vec::new(alloc));
-    let mut errors = Writer::new(Vec::new(alloc));
-    let exit = drvhost_sets::list::list(alloc, &mut source, &mut output, &mut errors);
-    collected(exit, source.failures(), 0, output, errors)
+    Ok(answer::list::list(alloc, set)?)
 }
 
 /// The image of a set, in the second edition.

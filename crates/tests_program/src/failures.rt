@@ -8,7 +8,8 @@ use crate::devices::{Narrow, Slow, have_taken};
 use answer::as_text::Text;
 use answer::check::Judgement;
 use answer::deliver::deliver;
-use answer::judged::Judged;
+use answer::judged::{Judged, Unjudged};
+use answer::list::Listing;
 use drvhost_devices::device::{Reader, Sink, Source};
 use drvhost_devices::extent::Extent;
 use drvhost_devices::figure::Figure;
@@ -17,7 +18,6 @@ use drvhost_devices::verification::Verification;
 use drvhost_runs::host::{Hosting, host};
 use drvhost_runs::trace::trace;
 use drvhost_sets::explaining::explain;
-use drvhost_sets::list::list;
 use drvhost_sets::rewriting::rewrite;
 use drvhost_sets::version::version;
 use drvhost_views::draw::{Drawing, draw};
@@ -382,7 +382,7 @@ fn answer<R: Threads + Wait + Sync>(
     match case.job {
         Job::Check => check(alloc, set, out, err),
         Job::Explain(extent) => explain(alloc, extent, set, out, err),
-        Job::List => list(alloc, set, out, err),
+        Job::List => deliver(&Unjudged { job: Listing }, alloc, "", set, out, err),
         Job::Rewrite => rewrite(alloc, set, out, err),
         Job::Trace(schedule, verification) => {
             let mut schedule = Slow::new(schedule, devices.step, devices.orders);
