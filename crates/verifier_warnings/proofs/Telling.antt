@@ -66,8 +66,3 @@ order_added (lock ∷ locks) start old middle new some is second third =
     ∙ ap (λ (xs : List ℕ). xs ++ codes ".\n") (second ∙ ap (λ (xs : List ℕ). xs ++ names) is)
     ∙ append_assoc (start ++ codes " takes its locks in this order: ") names (codes ".\n")
     ∙ append_assoc start (codes " takes its locks in this order: ") (names ++ codes ".\n")
-
--- of none there is no first
-pub none_is_empty : (locks : List Guard) → locks ≡ [] → (length locks == 0) ≡ true
-none_is_empty [] none = refl
-none_is_empty (lock ∷ locks) none = cc

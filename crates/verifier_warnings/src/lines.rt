@@ -71,10 +71,10 @@ fn ordered_line(
     requires { AreOrdered accepted.now number locks.now }
     ensures { IfOk result (λ line. IsOrderLine accepted.now number (string_bytes line)) }
 {
-    let paired = paired_locks(alloc, accepted, number, locks)?;
-    if paired.is_empty() && !takes_lock(accepted.set(), number) {
+    if !takes_lock(accepted.set(), number) {
         return Ok(String::new(alloc));
     }
+    let paired = paired_locks(alloc, accepted, number, locks)?;
     line_of(alloc, telling, number, paired.as_slice())
 }
 
