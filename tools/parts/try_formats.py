@@ -1,7 +1,7 @@
 #!/usr/bin/env python3
 """Whether the examples of docs/FORMATS.md are what their schemas say: each schema takes its
-examples, and refuses each of them where a member lacks or is of another type. A log of SARIF is what
-its standard wants, too.
+examples, and refuses each of them where a member lacks or is of another type, but for those that may
+lack (MAY_LACK). A log of SARIF is what its standard wants, too.
 
     tools/try formats [FILE ..]     these documents, or docs/FORMATS.md
 
@@ -20,6 +20,8 @@ from jsonschema import Draft202012Validator
 import sarif_standard
 
 TOP = os.path.dirname(os.path.dirname(os.path.dirname(os.path.abspath(__file__))))
+# The members that a shape may lack: a result on an image, or on an empty file, has no region.
+MAY_LACK = {("log", "region")}
 BLOCK = re.compile(r"<!-- format: (\w+) -->\n```json\n(.*?)```", re.S)
 
 
@@ -52,7 +54,7 @@ def wrong_ones(value):
                 del place[key]
             else:
                 place[key] = other
-            yield key, changed
+            yield key, other is None, changed
 
 
 def faults_of(shape, validator, line):
@@ -64,8 +66,8 @@ def faults_of(shape, validator, line):
         yield from sarif_standard.faults_of(value)
     for error in validator.iter_errors(value):
         yield f"is refused: {error.message}"
-    for key, changed in wrong_ones(value):
-        if validator.is_valid(changed):
+    for key, lacks, changed in wrong_ones(value):
+        if validator.is_valid(changed) and not (lacks and (shape, key) in MAY_LACK):
             yield f"is taken with another member `{key}`, or without it"
 
 
