@@ -1,10 +1,12 @@
 #!/usr/bin/env python3
 """tools/keep numbers [--write]: whether the counts that the documents tell are those that the tools count.
 
-Of contracts, definitions, crates, edits, stored runs, wrong drivers, bodies and the rules of the model each place is listed in PLACES, by
-the words round it. It tells each that is otherwise, or isn't there once, and ends with status 1 then; with --write it puts the numbers
-there. What was measured on a day, as seconds, is no such count. It tells too which call that may wait docs/PROVED.md doesn't name, where
-a file says another last rule than the model has (`V1 to V20`), and which schema takes other rules. The last line counts."""
+Of contracts, definitions, crates, edits, stored runs, wrong drivers, bodies and the rules of the
+model each place is listed in PLACES, by the words round it. It tells each that is otherwise, or
+isn't there once, and ends with status 1 then; with --write it puts the numbers there. What was
+measured on a day, as seconds, is no such count. It tells too which call that may wait
+docs/PROVED.md doesn't name, where a file says another last rule than the model has (`V1 to V20`),
+and which schema takes other rules. The last line counts."""
 import glob, os, re, subprocess, sys
 
 import count_contracts
@@ -88,9 +90,11 @@ def unnamed():
 
 def other_last_rules():
     """Where a file says another last rule than the model has."""
-    files = subprocess.run(['git', 'ls-files', '-z'], cwd=TOP, capture_output=True, check=True).stdout.decode().split('\0')
-    for name in filter(lambda name: name.endswith(TOLD) and os.path.isfile(os.path.join(TOP, name)), files):
-        with open(os.path.join(TOP, name), encoding='utf-8') as file:
+    listing = subprocess.run(['git', 'ls-files', '-z'], cwd=TOP, capture_output=True, check=True)
+    files = [os.path.join(TOP, name) for name in listing.stdout.decode().split('\0') if name.endswith(TOLD)]
+    for path in filter(os.path.isfile, files):
+        name = os.path.relpath(path, TOP)
+        with open(path, encoding='utf-8') as file:
             for number in re.findall(r'\bV1`? to `?V(\d+)', file.read()):
                 if int(number) != rules():
                     yield name, number
@@ -100,7 +104,8 @@ def other_patterns():
     for name in SCHEMAS:
         with open(os.path.join(TOP, name), encoding='utf-8') as file:
             patterns = re.findall(r'"pattern": "(\^V[^"]*)"', file.read())
-        taken = [number for number in range(0, 2 * rules()) for pattern in patterns if re.search(pattern, 'V%d' % number)]
+        numbers = range(0, 2 * rules())
+        taken = [number for number in numbers for pattern in patterns if re.search(pattern, 'V%d' % number)]
         if taken != list(range(1, rules() + 1)):
             yield name
 
@@ -134,7 +139,7 @@ def main():
         print('%s: the last rule is V%d, not V%s' % (name, found['rules'], number))
     for name in other_patterns():
         wrong += 1
-        print('%s: its pattern of a rule does not take V1 to V%d, and these alone' % (name, found['rules']))
+        print('%s: its pattern of a rule takes other ones than V1 to V%d' % (name, found['rules']))
     print('%d numbers, %d told otherwise' % (len(PLACES), wrong))
     return 1 if wrong or missing else 0
 

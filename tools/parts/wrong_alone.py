@@ -1,5 +1,5 @@
-"""Wrong bodies that are tried function by function, over libraries that a run has built: seconds each, where a round of `rt must-fail`
-proves all crates below, and the crate twice."""
+"""Wrong bodies that are tried function by function, over libraries that a run has built: seconds
+each, where a round of `rt must-fail` proves all crates below, and the crate twice."""
 import os, re, shutil, subprocess, tempfile
 
 FUNCTION = re.compile(r'^(\s*)(?:pub(?:\([a-z ]+\))? )?(?:const )?fn (\w+)', re.M)
@@ -9,24 +9,32 @@ class Tried:
     """The crate of a copy, what it stands on, and where its checks keep what they did."""
 
     def __init__(self, kit, crate, folder, libraries, kept):
-        self.kit, self.crate, self.folder, self.libraries, self.kept = kit, crate, folder, libraries, kept
+        self.kit, self.crate, self.folder = kit, crate, folder
+        self.libraries, self.kept = libraries, kept
 
     def check(self, functions):
         """The exit status and the output of a check of these functions alone."""
-        built = [folder for folder in (self.libraries, os.path.join(self.kit, 'rlibs'))]
-        words = [os.path.join(self.kit, 'bin/rattle'), 'check', '--crate-name', self.crate, self.root(), *self.externs(built)]
-        words += ['--antt-project', os.path.join(self.kit, 'rattle/logic/antt-project.json'), '--logic-built', os.path.join(self.kit, 'logic_built')]
-        words += ['--incremental', self.kept, '--empty-contracts', *(word for name in functions for word in ('--only', name))]
-        done = subprocess.run(words, cwd=self.folder, stdout=subprocess.PIPE, stderr=subprocess.STDOUT, text=True, errors='replace')
+        built = self.libraries, os.path.join(self.kit, 'rlibs')
+        words = [os.path.join(self.kit, 'bin/rattle'), 'check']
+        words += ['--crate-name', self.crate, self.root()]
+        words += self.externs(built)
+        words += ['--antt-project', os.path.join(self.kit, 'rattle/logic/antt-project.json')]
+        words += ['--logic-built', os.path.join(self.kit, 'logic_built')]
+        words += ['--incremental', self.kept, '--empty-contracts']
+        words += [word for name in functions for word in ('--only', name)]
+        done = subprocess.run(words, cwd=self.folder, text=True, errors='replace',
+                              stdout=subprocess.PIPE, stderr=subprocess.STDOUT)
         return done.returncode, done.stdout
 
     def root(self):
-        return 'src/main.rt' if os.path.isfile(os.path.join(self.folder, 'src/main.rt')) else 'src/lib.rt'
+        program = os.path.isfile(os.path.join(self.folder, 'src/main.rt'))
+        return 'src/main.rt' if program else 'src/lib.rt'
 
     def externs(self, built):
         """The words that name each library which it lists, and where those below them are."""
         for name in ('std', *self.below()):
-            found = [path for path in (os.path.join(folder, name + '.rlib') for folder in built) if os.path.isdir(path)]
+            paths = (os.path.join(folder, name + '.rlib') for folder in built)
+            found = [path for path in paths if os.path.isdir(path)]
             if not found:
                 raise LookupError('there is no built library of ' + name)
             yield from ('--extern', '%s=%s' % (name, found[0]))
@@ -43,7 +51,8 @@ class Tried:
 
 def function_at(path, text, place):
     """What a check may call the function that stands at a place of a file: the likeliest first."""
-    module = '::'.join(part for part in os.path.relpath(path, 'src')[:-3].split('/') if part not in ('lib', 'main', 'mod'))
+    parts = os.path.relpath(path, 'src')[:-3].split('/')
+    module = '::'.join(part for part in parts if part not in ('lib', 'main', 'mod'))
     before = [found for found in FUNCTION.finditer(text) if found.start() <= place]
     if not before:
         return []
@@ -52,11 +61,12 @@ def function_at(path, text, place):
     if last[1] and owner:
         trait, type_ = owner[-1].groups()
         names = ['%s::%s' % (type_ + (trait or ''), last[2])]
-    whole = [('%s::%s' % (module, name) if module else name) for name in names + [last[2]]]
+    own = names + [last[2]]
+    whole = ['%s::%s' % (module, name) if module else name for name in own]
     return whole + names + [last[2], *([module] if module else [])]
 
 def functions_of(folder, changes):
-    """For each text that an edit changes, what its function may be called; None where it isn't code."""
+    """What the functions that an edit changes may be called; None where it changes no code."""
     found = []
     for name, old, _ in changes:
         if not name.startswith('src/'):
@@ -92,5 +102,6 @@ def copy_of(top, crate, folder):
     """A copy of a crate below a folder, beside the list of crates."""
     shutil.copy(os.path.join(top, 'crates.txt'), folder)
     to = os.path.join(folder, crate)
-    shutil.copytree(os.path.join(top, 'crates', crate), to, ignore=shutil.ignore_patterns('out', 'must-fail'))
+    left_out = shutil.ignore_patterns('out', 'must-fail')
+    shutil.copytree(os.path.join(top, 'crates', crate), to, ignore=left_out)
     return to
