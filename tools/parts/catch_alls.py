@@ -23,7 +23,7 @@ MODEL = 'model'
 # Functions whose contract pins the answer by a relation, or is that of their trait's method.
 BY_RELATION = {
     ('checked', 'leave'): 'LeavesOver',
-    ('drvhost_runs', 'repeat'): 'Machine::repeat',
+    ('answer_runs', 'repeat'): 'Machine::repeat',
     ('hunt_worlds', 'same'): 'Same::same',
     ('tell_holders', 'of'): 'IsVerdict',
     ('verifier', 'arrive'): 'IsArrived',

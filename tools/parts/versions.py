@@ -22,7 +22,7 @@ NUMBER = "%d%03d%03d" % tuple(map(int, VERSION.split(".")))
 COPIES = (
     ("crates/drvhost_arguments/src/program.rt", 'VERSION: &str = "', VERSION, '"'),
     ("crates/drvhost_devices/specs/Answer.antt", 'codes "drvhost ', VERSION, '\\n"'),
-    ("crates/drvhost_sets/src/version.rt", 'b"drvhost ', VERSION, '\\n"'),
+    ("crates/answer_explain/src/version.rt", 'b"drvhost ', VERSION, '\\n"'),
     ("crates/pafteis/src/version.rt", "VERSION_NUMBER: u32 = ", f"{int(NUMBER):_}", ";"),
     ("crates/pafteis/src/version.rt", 'b"pafteis ', VERSION, '\\n"'),
     ("crates/report_sarif/src/log.rt", 'VERSION: &str = "', VERSION, '"'),

@@ -19,11 +19,11 @@ use Rattle.drvhost_devices.specs.Answer.{Answer, is_last, shown_replies}
 use Rattle.drvhost_devices.specs.Device.{Adds, TakesBeginning}
 use Rattle.drvhost_devices.specs.Fault.{failed_reads, failed_writes, reads_failed, writes_failed}
 use Rattle.drvhost_devices.proofs.Writing.{Gathered, adds_more, begins_before, gathered_part}
-use Rattle.drvhost_runs.specs.declared.running.Replies.{Replies}
-use Rattle.drvhost_runs.specs.Repeats.{AreReplies, told_by}
-use Rattle.drvhost_runs.specs.Watching.{BreaksOff, Observes, RunsBy, TellsOn, UpToLast, end_by}
-use Rattle.drvhost_runs.proofs.Following.{breaks_before}
-use Rattle.drvhost_runs.proofs.Observing.{length_replies, replies_on, replies_told, shown_past, shown_until}
+use Rattle.answer_runs.specs.declared.running.Replies.{Replies}
+use Rattle.answer_runs.specs.Repeats.{AreReplies, told_by}
+use Rattle.answer_runs.specs.Watching.{BreaksOff, Observes, RunsBy, TellsOn, UpToLast, end_by}
+use Rattle.answer_runs.proofs.Following.{breaks_before}
+use Rattle.answer_runs.proofs.Observing.{length_replies, replies_on, replies_told, shown_past, shown_until}
 use Rattle.drvhost_formats.specs.declared.events.EventWriter.{EventWriter}
 use Rattle.drvhost_formats.specs.declared.outcome.Outcome.{Outcome}
 use Rattle.drvhost_formats.specs.declared.outcome.Outcome.TheVariants as outcome

@@ -14,7 +14,7 @@ use Rattle.drvhost_evidence.specs.declared.shown.Shown.{Shown}
 use Rattle.drvhost_evidence.specs.Regions.{refusal_region}
 use Rattle.drvhost_evidence.specs.Shown.{IsShown}
 use Rattle.drvhost_evidence.proofs.EachFault.{past_told, told_at, within_told}
-use Rattle.drvhost_mends.specs.Fix.{IsFix}
+use Rattle.answer_mends.specs.Fix.{IsFix}
 use Rattle.drvhost_devices.specs.declared.extent.Extent.{Extent}
 use Rattle.drvhost_devices.specs.declared.extent.Extent.TheVariants.{First, Each}
 use Rattle.drvhost_formats.specs.declared.outcome.Outcome.TheVariants.{Stopped}

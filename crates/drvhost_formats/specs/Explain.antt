@@ -12,11 +12,11 @@ use Rattle.verifier_evidence.specs.Evidence.{IsEvidence}
 use Rattle.verifier_words.specs.Faults.{AreFaults}
 use Rattle.drvhost_devices.specs.Answer.{Answer}
 use Rattle.drvhost_devices.specs.Device.{Supply}
-use Rattle.drvhost_sets.specs.Explained.{TellsLocks}
+use Rattle.answer_explain.specs.Explained.{TellsLocks}
 use Rattle.drvhost_evidence.specs.declared.shown.Shown.{Shown}
 use Rattle.drvhost_evidence.specs.Regions.{refusal_region}
 use Rattle.drvhost_evidence.specs.Shown.{IsShownBy}
-use Rattle.drvhost_mends.specs.Fix.{IsFix}
+use Rattle.answer_mends.specs.Fix.{IsFix}
 use Rattle.drvhost_devices.specs.declared.extent.Extent.{Extent}
 use Rattle.drvhost_devices.specs.declared.extent.Extent.TheVariants.{First, Each}
 use Rattle.drvhost_formats.specs.declared.outcome.Outcome.TheVariants.{Complete, Stopped}

@@ -9,16 +9,16 @@ ghost use Rattle.drvhost_devices.specs.Device.{Bytes, CanCount, Says};
 ghost use Rattle.drvhost_devices.specs.Ends.{HoldsSet};
 ghost use Rattle.drvhost_devices.specs.Fault.{reads_failed, writes_failed};
 ghost use Rattle.drvhost_devices.specs.Ready.{CanAnswer};
-ghost use Rattle.drvhost_sets.specs.Devices.{AnswersOver};
+ghost use Rattle.answer_explain.specs.Devices.{AnswersOver};
 ghost use Rattle.drvhost_formats.specs.Told.{IsToldOf, IsToldOfFile, Tells, telling_status};
 ghost use Rattle.drvhost_formats.specs.Told.{telling_told};
 
 use crate::outcome::Outcome;
 use crate::reading::said_in;
+use answer_explain::taking::Taking;
 use drvhost_devices::device::{Sink, Source};
 use drvhost_devices::fault::{Fault, finish, no_memory};
 use drvhost_devices::transfer::{read_whole, write_bytes};
-use drvhost_sets::taking::Taking;
 use image::DriverSet;
 use report::lines::Lines;
 use report_json::fault::{FileFault, InputFault};

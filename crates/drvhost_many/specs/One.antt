@@ -9,7 +9,7 @@ use Rattle.drvhost_devices.specs.Ends.{IsCheckOf}
 use Rattle.answer.specs.Check.{IsCheckJsonOf}
 use Rattle.drvhost_formats.specs.Explain.{IsExplainJsonOf}
 use Rattle.answer.specs.Told.{IsUnopenedJson}
-use Rattle.drvhost_sets.specs.Explained.{IsFileExplained}
+use Rattle.answer_explain.specs.Explained.{IsFileExplained}
 use Rattle.drvhost_many.specs.Painted.{IsShown}
 use Rattle.drvhost_many.specs.declared.many.Halt.{Halt}
 use Rattle.drvhost_many.specs.declared.many.Halt.TheVariants.{Memory, Write}

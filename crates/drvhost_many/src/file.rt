@@ -15,12 +15,12 @@ use answer::check::Judgement;
 use answer::deliver::deliver;
 use answer::form::Form;
 use answer::judged::Judged;
+use answer_explain::showing::Explained;
 use drvhost_commands::job::Judging;
 use drvhost_devices::device::{Reader, Sink, Source, Writer};
 use drvhost_devices::told::{Told, collected};
 use drvhost_files::reading::{Contents, Held};
 use drvhost_formats::explain::explain_json;
-use drvhost_sets::showing::Explained;
 use std::alloc::{AllocError, Global};
 
 /// What is answered for a file that was read, told with its name.

@@ -5,14 +5,14 @@ ghost use Rattle.drvhost_devices.specs.Device.{Says};
 ghost use Rattle.drvhost_devices.specs.Ends.{Answers};
 ghost use Rattle.drvhost_devices.specs.Ready.{CanAnswer, CanWrite};
 ghost use Rattle.drvhost_many.specs.Painted.{IsInColor, IsPaintedAs, IsPaintedOf, IsShown};
-ghost use Rattle.drvhost_sets.specs.Explained.{IsFileExplained};
+ghost use Rattle.answer_explain.specs.Explained.{IsFileExplained};
 
+use answer_explain::showing::{Explained, explain_file};
 use drvhost_devices::coloring::Coloring;
 use drvhost_devices::device::{Sink, Source, Writer};
 use drvhost_devices::fault::{no_memory, say};
 use drvhost_devices::paint::paint;
 use drvhost_devices::told::{Told, collected, deliver};
-use drvhost_sets::showing::{Explained, explain_file};
 use report::fault::READ_FAILED;
 use std::alloc::{AllocError, Global};
 

@@ -36,7 +36,7 @@ use Rattle.drvhost_devices.specs.Told.{joined}
 use Rattle.drvhost_many.specs.All.{Counted}
 use Rattle.drvhost_many.specs.Held.{AreJoined}
 use Rattle.drvhost_many.proofs.Judged.{ends_rightly}
-use Rattle.drvhost_scenarios.specs.Scenarios.{IsOfScenario, IsOutcome, IsTested, names_in}
+use Rattle.answer_scenarios.specs.Scenarios.{IsOfScenario, IsOutcome, IsTested, names_in}
 use Rattle.drvhost_tests.specs.Reports.{framed, reported}
 use Rattle.drvhost_tests.specs.Tests.{AreAllTold, AreEntries, AreJudgedBy, AreOthers, AreTested, AreTestsOf, AreTold, AreToldBy, AreToldIf, Asked, Gathers, IsContentsTold, IsEntry, IsFaultOf, IsHeldTold, IsKept, IsKeptSo, IsOther, IsScenarioTold, IsTestOf, IsVerdictsIn, OneHasVerdicts, Tested, is_contents_of_verdict, is_held_of_verdict, marked}
 

@@ -24,9 +24,9 @@ use Rattle.drvhost_devices.specs.declared.manner.Manner.{Manner}
 use Rattle.drvhost_devices.specs.declared.manner.Strictness.TheVariants.{Lenient}
 use Rattle.drvhost_devices.specs.declared.verbosity.Verbosity.{Verbosity}
 use Rattle.drvhost_devices.specs.declared.verbosity.Verbosity.TheVariants.{Brief, Verbose}
-use Rattle.drvhost_scenarios.specs.Scenarios.{IsOfScenario, IsTested, names_in, right_of}
-use Rattle.drvhost_scenarios.specs.declared.telling.Asked.TheVariants.{Schedule}
-use Rattle.drvhost_views.specs.Told.{IsTellOf}
+use Rattle.answer_scenarios.specs.Scenarios.{IsOfScenario, IsTested, names_in, right_of}
+use Rattle.answer_scenarios.specs.declared.telling.Asked.TheVariants.{Schedule}
+use Rattle.answer_views.specs.Told.{IsTellOf}
 use Rattle.interleave.specs.declared.schedule.ScheduleFault.{ScheduleFault}
 use Rattle.model.specs.declared.abs.Refusal.{Refusal}
 use Rattle.model.specs.Set.{Set}

@@ -2,20 +2,20 @@
 
 ghost use Rattle.std.specs.Prelude.{◌≡◌, IfOk};
 ghost use Rattle.drvhost_devices.specs.Device.{Bytes};
-ghost use Rattle.drvhost_scenarios.specs.Scenarios.{IsOfScenario, names_in, right_of};
-ghost use Rattle.drvhost_scenarios.specs.declared.telling.Asked.TheVariants.{Schedule};
-ghost use Rattle.drvhost_views.specs.Told.{IsTellOf};
+ghost use Rattle.answer_scenarios.specs.Scenarios.{IsOfScenario, names_in, right_of};
+ghost use Rattle.answer_scenarios.specs.declared.telling.Asked.TheVariants.{Schedule};
+ghost use Rattle.answer_views.specs.Told.{IsTellOf};
 ghost use Rattle.drvhost_tests.specs.Tests.{IsRunOf, IsRunTold, IsToldWith, usual};
 ghost use Rattle.scenario_text.specs.Listing.{scenario_in};
 
+use answer_scenarios::telling::{Asked, tell_text};
+use answer_views::tell::{Telling, tell};
 use drvhost_devices::device::{Reader, Source, Writer};
 use drvhost_devices::fault::Fault;
 use drvhost_devices::manner::{Detail, Manner, Strictness};
 use drvhost_devices::told::{Told, collected};
 use drvhost_devices::verbosity::Verbosity;
 use drvhost_devices::verification::Verification;
-use drvhost_scenarios::telling::{Asked, tell_text};
-use drvhost_views::tell::{Telling, tell};
 use image::DriverSet;
 use std::alloc::{AllocError, Global};
 

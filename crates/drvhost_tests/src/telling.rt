@@ -8,10 +8,10 @@ ghost use Rattle.report.specs.Fault.{image_fault_line, schedule_fault_line, text
 
 use crate::reporting::alone;
 use crate::test::Tests;
+use answer_scenarios::telling::{self, tell_refusal};
 use asm::AsmFault;
 use drvhost_devices::fault::Fault;
 use drvhost_devices::told::Told;
-use drvhost_scenarios::telling::{self, tell_refusal};
 use image::ImageFault;
 use interleave::schedule::ScheduleFault;
 use model::abs::Refusal;

@@ -16,8 +16,8 @@ use Rattle.drvhost_formats.specs.declared.outcome.Outcome.{Outcome}
 use Rattle.drvhost_formats.specs.declared.outcome.Outcome.TheVariants.{Faulty}
 use Rattle.drvhost_formats.specs.Events.{outcome_of}
 use Rattle.drvhost_formats.specs.Told.{told}
-use Rattle.drvhost_runs.proofs.Serving.{answered_there}
-use Rattle.drvhost_runs.specs.Served.{rings_in, served_end}
+use Rattle.answer_runs.proofs.Serving.{answered_there}
+use Rattle.answer_runs.specs.Served.{rings_in, served_end}
 use Rattle.drvhost_told.specs.Served.{IsServedInJson, IsServedJsonOf, ReadsCommands, command_objects, served_objects}
 
 -- the lines of what was hosted are right

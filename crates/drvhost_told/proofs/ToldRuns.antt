@@ -23,9 +23,9 @@ use Rattle.tell_uses.specs.Ledger.{LedgerState, Tells as TellsRun}
 use Rattle.drvhost_devices.specs.Answer.{Answer, is_last}
 use Rattle.drvhost_devices.specs.declared.fault.End.{End}
 use Rattle.drvhost_devices.specs.declared.manner.Strictness.{Strictness}
-use Rattle.drvhost_runs.specs.Watching.{RunsTo, end_by, until_end}
-use Rattle.drvhost_runs.proofs.Observing.{length_replies, replies_told}
-use Rattle.drvhost_runs.proofs.Repeating.{once}
+use Rattle.answer_runs.specs.Watching.{RunsTo, end_by, until_end}
+use Rattle.answer_runs.proofs.Observing.{length_replies, replies_told}
+use Rattle.answer_runs.proofs.Repeating.{once}
 use Rattle.drvhost_formats.specs.declared.outcome.Outcome.{Outcome}
 use Rattle.drvhost_formats.specs.Told.{told}
 use Rattle.drvhost_devices.specs.Strict.{fails_strictly}

@@ -17,7 +17,7 @@ use Rattle.drvhost_devices.specs.declared.verification.Verification.TheVariants.
 use Rattle.drvhost_formats.specs.Events.{outcome_of}
 use Rattle.drvhost_formats.specs.Told.{IsToldOf, fault_answer, told}
 use Rattle.drvhost_formats.specs.Trace.{IsJudgedJson}
-use Rattle.drvhost_runs.specs.Served.{ringed_after, served_end}
+use Rattle.answer_runs.specs.Served.{ringed_after, served_end}
 
 -- a line for each command, the first of which has this number, with what is told of it
 abbrev pub command_objects : ℕ → List (Option Reply) → List ℕ

@@ -28,7 +28,7 @@ use Rattle.drvhost_devices.specs.Answer.{Answer, is_last}
 use Rattle.drvhost_devices.specs.declared.fault.End.{End}
 use Rattle.drvhost_devices.specs.declared.fault.End.TheVariants as end
 use Rattle.drvhost_devices.specs.Device.{Supply}
-use Rattle.drvhost_runs.specs.Watching.{until_end}
+use Rattle.answer_runs.specs.Watching.{until_end}
 use Rattle.drvhost_formats.specs.declared.outcome.Outcome.{Outcome}
 use Rattle.drvhost_formats.specs.declared.outcome.Outcome.TheVariants.{Complete, Stopped}
 use Rattle.drvhost_formats.specs.Told.{IsToldOf, fault_answer, told}

@@ -5,11 +5,11 @@ ghost use Rattle.drvhost_devices.specs.Device.{Bytes, CanCount, Supply};
 ghost use Rattle.drvhost_devices.specs.Ends.{HoldsRun};
 ghost use Rattle.drvhost_devices.specs.Fault.{reads_failed, writes_failed};
 ghost use Rattle.drvhost_devices.specs.Ready.{CanAnswer};
-ghost use Rattle.drvhost_sets.specs.Devices.{AnswersOver};
+ghost use Rattle.answer_explain.specs.Devices.{AnswersOver};
 ghost use Rattle.drvhost_formats.specs.Events.{outcome_of};
 ghost use Rattle.drvhost_formats.specs.Told.{IsToldOfFile, Tells, told};
-ghost use Rattle.drvhost_runs.specs.Hosting.{AreWorkers};
-ghost use Rattle.drvhost_runs.specs.Served.{rings_in, served_end};
+ghost use Rattle.answer_runs.specs.Hosting.{AreWorkers};
+ghost use Rattle.answer_runs.specs.Served.{rings_in, served_end};
 ghost use Rattle.drvhost_told.specs.Made.{IsWithoutAnswer, Makes};
 ghost use Rattle.drvhost_told.specs.Served.{IsHostJson, IsHostJsonOf, IsServedInJson};
 ghost use Rattle.drvhost_told.specs.Served.{IsServedJsonOf, ReadsCommands, command_objects};
@@ -17,6 +17,7 @@ ghost use Rattle.model.specs.Typable.{IsTypable};
 ghost use Rattle.report_json.specs.Line.{json_line};
 ghost use Rattle.report_json.specs.Served.{history_json};
 
+use answer_runs::host::{Hosting, end_of};
 use checked::Checked;
 use drvhost_devices::device::{Sink, Source};
 use drvhost_devices::fault::{End, Fault, no_memory};
@@ -26,7 +27,6 @@ use drvhost_formats::check::refuse;
 use drvhost_formats::job::{close, tell_fault};
 use drvhost_formats::outcome::Outcome;
 use drvhost_formats::reading::said_in;
-use drvhost_runs::host::{Hosting, end_of};
 use image::DriverSet;
 use interleave::schedule::{ScheduleFault, ScheduleKind};
 use interleave_texts::script_parse::parse_script;
@@ -54,7 +54,7 @@ pub struct Asked<'a, R, G> {
     pub hosting: Hosting<'a, R, G>,
 }
 
-/// Has the commands of a script served as [`host`](drvhost_runs::host::host) does, and writes an
+/// Has the commands of a script served as [`host`](answer_runs::host::host) does, and writes an
 /// object for each: what its line in `host` tells of it; and one for their history, of how many
 /// entries it is, with the threads that wait in a ring after it. Of locks that are taken in a cycle
 /// nothing is told. Faults and a refusal are written as lines too: those of the set before a

@@ -6,13 +6,13 @@ ghost use Rattle.drvhost_formats.specs.Told.{told};
 ghost use Rattle.interleave.specs.Listing.{IsWithinLimits};
 ghost use Rattle.model.specs.Machine.{ShowsWhole};
 
+use answer_runs::follow::is_last;
+use answer_runs::watching::{Observer, Taken, observe};
 use checked::Checked;
 use drvhost_devices::fault::{End, Fault};
 use drvhost_devices::manner::Strictness;
 use drvhost_devices::reading::source_of;
 use drvhost_formats::outcome::Outcome;
-use drvhost_runs::follow::is_last;
-use drvhost_runs::watching::{Observer, Taken, observe};
 use image::DriverSet;
 use interleave::schedule::Schedule;
 use model::event::Event;

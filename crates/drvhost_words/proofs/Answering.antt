@@ -6,7 +6,7 @@ use Rattle.clap.specs.Words.{Text, subcommand_of, takes}
 use Rattle.drvhost_devices.specs.Answer.{Answer}
 use Rattle.drvhost_devices.specs.Device.{IsSuppliedAs, Says, Supply}
 use Rattle.drvhost_devices.specs.Ends.{Answers, Ends, HoldsRun, IsCheckOf, IsRewriteOf, OutOfMemory, ReadFailed, Rightly, WriteFailed}
-use Rattle.drvhost_runs.specs.Readiness.{SaysWarned}
+use Rattle.answer_runs.specs.Readiness.{SaysWarned}
 use Rattle.drvhost_devices.specs.declared.verification.Verification.{Verification}
 use Rattle.drvhost_commands.specs.declared.job.Form.{Form}
 use Rattle.drvhost_commands.specs.declared.job.Form.TheVariants.{Lines, Json}

@@ -7,8 +7,8 @@ use Rattle.drvhost_devices.specs.Answer.{Answer}
 use Rattle.drvhost_devices.specs.Device.{IsSuppliedAs, Supply}
 use Rattle.drvhost_files.specs.Files.{IsWritten, blank, contents_of}
 use Rattle.drvhost_files.proofs.Known.{holds_known}
-use Rattle.drvhost_runs.specs.Keeping.{IsKeptOf, IsKeptWith, LeavesFor, TakesWith, Touches}
-use Rattle.drvhost_runs.specs.Readiness.{AreWarningsOf}
+use Rattle.answer_runs.specs.Keeping.{IsKeptOf, IsKeptWith, LeavesFor, TakesWith, Touches}
+use Rattle.answer_runs.specs.Readiness.{AreWarningsOf}
 use Rattle.drvhost_words.specs.Program.{KeepsHistory, WritesHistory}
 use Rattle.drvhost_words.specs.Returned.{StoresIf, count_of}
 use Rattle.drvhost_words.proofs.Answering.{warned_known}

@@ -8,8 +8,8 @@ use Rattle.drvhost_devices.specs.Ends.{Answers, Ends, OutOfMemory, ReadFailed, R
 use Rattle.drvhost_files.specs.Files.{IsWritten, Stores, blank}
 use Rattle.drvhost_files.proofs.Known.{holds_known}
 use Rattle.drvhost_many.proofs.Judged.{ends_rightly}
-use Rattle.drvhost_mends.specs.declared.apply.Asked.{Asked}
-use Rattle.drvhost_mends.specs.Apply.{IsApplyOf, IsApplyWith, LeavesFor, TakesMade}
+use Rattle.answer_mends.specs.declared.apply.Asked.{Asked}
+use Rattle.answer_mends.specs.Apply.{IsApplyOf, IsApplyWith, LeavesFor, TakesMade}
 use Rattle.drvhost_words.specs.Program.{MendsFile, WritesMend}
 use Rattle.drvhost_words.proofs.Rewritten.{appends_as, has_part}
 

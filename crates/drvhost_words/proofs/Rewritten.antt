@@ -6,7 +6,7 @@ use Rattle.drvhost_devices.specs.declared.fault.End.TheVariants.{Complete}
 use Rattle.drvhost_devices.specs.Answer.{Answer, ended}
 use Rattle.drvhost_devices.specs.Device.{Bytes, Closed, IsSuppliedAs, Supply, TakesBeginning, Unknown}
 use Rattle.drvhost_devices.specs.Ends.{Ends, IsRewriteOf, OutOfMemory, ReadFailed, Rightly, TakesImage, WriteFailed}
-use Rattle.drvhost_sets.proofs.Images.{image_some}
+use Rattle.answer_explain.proofs.Images.{image_some}
 use Rattle.drvhost_files.specs.Files.{Has, IsWritten, Stores, blank, contents_of}
 use Rattle.drvhost_words.specs.Program.{RewritesFile, WritesFile}
 use Rattle.drvhost_words.proofs.Answering.{rewrite_known}

@@ -11,20 +11,20 @@ use Rattle.drvhost_devices.specs.Device.{MayBeClosed, Supply}
 use Rattle.drvhost_devices.specs.declared.verification.Verification.{Verification}
 use Rattle.drvhost_devices.specs.declared.verification.Verification.TheVariants.{Required}
 use Rattle.drvhost_devices.specs.Ends.{Ends, HoldsRun, IsCheckOf, IsListOf, IsRewriteOf, IsTraceOf}
-use Rattle.drvhost_hunts.specs.Find.{IsFindOf}
+use Rattle.answer_hunts.specs.Find.{IsFindOf}
 use Rattle.answer.specs.Told.{IsUnopenedJson}
 use Rattle.drvhost_formats.specs.Trace.{IsTraceJsonOf}
-use Rattle.drvhost_hunts.specs.declared.hunt.Way.TheVariants.{Quick, Exact}
-use Rattle.drvhost_hunts.specs.Hunt.{IsHuntOfWay}
-use Rattle.drvhost_mends.specs.declared.apply.Asked.{Asked as Applying}
-use Rattle.drvhost_mends.specs.Apply.{IsApplyOf, IsApplyWith}
-use Rattle.drvhost_mends.specs.Mend.{IsMendOf}
-use Rattle.drvhost_scenarios.specs.Scenarios.{IsScheduleOf}
-use Rattle.drvhost_sets.specs.Explained.{IsLockOrderExplained}
-use Rattle.drvhost_runs.specs.Keeping.{IsKeptOf, IsKeptWith}
-use Rattle.drvhost_runs.specs.Readiness.{AreWarningsOf}
-use Rattle.drvhost_runs.specs.Served.{IsHostOf}
-use Rattle.drvhost_views.specs.Told.{IsDrawOf, IsTellOf}
+use Rattle.answer_hunts.specs.declared.hunt.Way.TheVariants.{Quick, Exact}
+use Rattle.answer_hunts.specs.Hunt.{IsHuntOfWay}
+use Rattle.answer_mends.specs.declared.apply.Asked.{Asked as Applying}
+use Rattle.answer_mends.specs.Apply.{IsApplyOf, IsApplyWith}
+use Rattle.answer_mends.specs.Mend.{IsMendOf}
+use Rattle.answer_scenarios.specs.Scenarios.{IsScheduleOf}
+use Rattle.answer_explain.specs.Explained.{IsLockOrderExplained}
+use Rattle.answer_runs.specs.Keeping.{IsKeptOf, IsKeptWith}
+use Rattle.answer_runs.specs.Readiness.{AreWarningsOf}
+use Rattle.answer_runs.specs.Served.{IsHostOf}
+use Rattle.answer_views.specs.Told.{IsDrawOf, IsTellOf}
 use Rattle.drvhost_commands.specs.declared.job.Form.{Form}
 use Rattle.drvhost_commands.specs.declared.job.Form.TheVariants.{Lines, Json}
 use Rattle.drvhost_commands.specs.declared.job.Job.{Job}
@@ -51,7 +51,7 @@ use Rattle.drvhost_devices.specs.declared.coloring.Coloring.TheVariants.{Always,
 use Rattle.drvhost_devices.specs.declared.jobs.TheConstants.{MAX_JOBS}
 use Rattle.drvhost_devices.specs.declared.surroundings.Surroundings.{Surroundings}
 use Rattle.drvhost_devices.specs.Painting.{is_painted}
-use Rattle.drvhost_sarif.specs.Log.{PathsEnd as LogEnds}
+use Rattle.answer_logs.specs.Log.{PathsEnd as LogEnds}
 use Rattle.drvhost_tests.specs.Tests.{Asked as Tested, TestsEnd}
 use Rattle.drvhost_told.specs.Served.{IsHostJsonOf}
 use Rattle.drvhost_told.specs.Tell.{IsTellJsonOf}

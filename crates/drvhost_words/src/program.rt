@@ -18,7 +18,7 @@ ghost use Rattle.drvhost_devices.specs.Ends.{Answers, HoldsRun, IsCheckOf, IsRew
 ghost use Rattle.drvhost_devices.specs.Ready.{CanAnswer, CanWrite};
 ghost use Rattle.drvhost_files.specs.Kept.{OnlyReads};
 ghost use Rattle.drvhost_files.specs.Ready.{CanCreate, CanOpen, CanOpenMany};
-ghost use Rattle.drvhost_sets.specs.Devices.{AnswersBy, AnswersOver};
+ghost use Rattle.answer_explain.specs.Devices.{AnswersBy, AnswersOver};
 
 use crate::coloring::{settled_judging, settled_way};
 use crate::keeping::keep_files;
@@ -32,6 +32,17 @@ use answer::deliver::{deliver, write_answer};
 use answer::form::Form;
 use answer::judged::Unjudged;
 use answer::list::Listing;
+use answer_explain::rewriting::rewrite;
+use answer_explain::rule::{explain_lock_order, explain_rule};
+use answer_explain::version::version;
+use answer_hunts::find::find;
+use answer_hunts::hunt::{self, Hunting, hunt_by};
+use answer_logs::logging::{Log, log_paths};
+use answer_mends::apply::{self, apply};
+use answer_mends::mend::{self, mend};
+use answer_runs::trace::trace;
+use answer_scenarios::schedule::schedule;
+use answer_views::draw::{Drawing, draw};
 use drvhost_commands::job::{
     FileNames, Job, JobFault, Judged, Judging, Page, Task, Testing, Way, refuse_unknown_words,
     refuse_words,
@@ -44,23 +55,12 @@ use drvhost_devices::unopened::tell_unopened;
 use drvhost_files::files::{Files, Later, Pending};
 use drvhost_files::sought::{Search, Sought};
 use drvhost_formats::trace::{Asked, trace_json};
-use drvhost_hunts::find::find;
-use drvhost_hunts::hunt::{self, Hunting, hunt_by};
 use drvhost_many::file::{self, judge};
 use drvhost_many::judging::JudgedFiles;
 use drvhost_many::many::{Sets, answer_each};
 use drvhost_many::paths::{alone, find_all};
-use drvhost_mends::apply::{self, apply};
-use drvhost_mends::mend::{self, mend};
-use drvhost_runs::trace::trace;
-use drvhost_sarif::logging::{Log, log_paths};
-use drvhost_scenarios::schedule::schedule;
-use drvhost_sets::rewriting::rewrite;
-use drvhost_sets::rule::{explain_lock_order, explain_rule};
-use drvhost_sets::version::version;
 use drvhost_tests::test::{Tests, test};
 use drvhost_told::tell::{self, tell_json};
-use drvhost_views::draw::{Drawing, draw};
 use hunt_facts::reach::Reach;
 use report_progress::progress::{Progress, Silent};
 use std::alloc::{AllocError, Global};

@@ -4,17 +4,17 @@ ghost use Rattle.std.specs.Prelude.{◌≡◌, ◌+◌, ◌⊎◌};
 ghost use Rattle.drvhost_devices.specs.Device.{CanCount};
 ghost use Rattle.drvhost_devices.specs.Ends.{HoldsRun};
 ghost use Rattle.drvhost_devices.specs.Ready.{CanAnswer};
-ghost use Rattle.drvhost_sets.specs.Devices.{AnswersOver};
+ghost use Rattle.answer_explain.specs.Devices.{AnswersOver};
 ghost use Rattle.drvhost_many.specs.Painted.{IsShown};
-ghost use Rattle.drvhost_views.specs.Told.{IsTellOf};
+ghost use Rattle.answer_views.specs.Told.{IsTellOf};
 
+use answer_views::tell::{Telling, tell};
 use drvhost_devices::coloring::Coloring;
 use drvhost_devices::device::{Sink, Source, Writer};
 use drvhost_devices::manner::Manner;
 use drvhost_devices::told::collected;
 use drvhost_devices::verification::Verification;
 use drvhost_many::painting::show;
-use drvhost_views::tell::{Telling, tell};
 use std::alloc::Global;
 
 /// How a run is told, and whether in colour.

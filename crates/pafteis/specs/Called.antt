@@ -7,7 +7,7 @@ use Rattle.drvhost_devices.specs.Device.{Bytes}
 use Rattle.drvhost_devices.specs.Ends.{IsTraceOf}
 use Rattle.drvhost_devices.specs.declared.extent.Extent.{Extent}
 use Rattle.drvhost_devices.specs.declared.extent.Extent.TheVariants.{First, Each}
-use Rattle.drvhost_sets.specs.Explained.{IsExplainedOf}
+use Rattle.answer_explain.specs.Explained.{IsExplainedOf}
 use Rattle.model.specs.declared.memory.OutOfMemory.{OutOfMemory}
 use Rattle.pafteis_parts.specs.Delivery.{bytes_of, placed}
 use Rattle.pafteis_values.specs.declared.verdict.Verdict.{Verdict}

@@ -1,9 +1,9 @@
 -- What the exported functions answer that look for runs and mends.
 use Rattle.std.specs.Prelude.{ℕ, ◌/◌, ◌%◌, ◌&&◌, Bool, List, nat_eq, nat_le, if◌then◌else◌, Option, None, Some}
 use Rattle.drvhost_devices.specs.Device.{Bytes}
-use Rattle.drvhost_hunts.specs.Hunt.{IsHuntOf}
-use Rattle.drvhost_mends.specs.declared.mend.Asked.{Asked}
-use Rattle.drvhost_mends.specs.Mend.{IsMendOf}
+use Rattle.answer_hunts.specs.Hunt.{IsHuntOf}
+use Rattle.answer_mends.specs.declared.mend.Asked.{Asked}
+use Rattle.answer_mends.specs.Mend.{IsMendOf}
 use Rattle.hunt_facts.specs.declared.bounds.Bounds.{Bounds}
 use Rattle.hunt_facts.specs.declared.bounds.Goal.{Goal}
 use Rattle.hunt_facts.specs.declared.bounds.Goal.TheVariants.{Amiss, AmissOrStuck}

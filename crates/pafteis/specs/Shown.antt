@@ -8,8 +8,8 @@ use Rattle.drvhost_devices.specs.declared.manner.Detail.{Detail}
 use Rattle.drvhost_devices.specs.declared.manner.Detail.TheVariants.{Every, Usual, Quiet}
 use Rattle.drvhost_devices.specs.declared.manner.Strictness.{Strictness}
 use Rattle.drvhost_devices.specs.declared.manner.Strictness.TheVariants.{Lenient, Strict}
-use Rattle.drvhost_views.specs.declared.tell.Telling.{Telling}
-use Rattle.drvhost_views.specs.Told.{IsDrawOf, IsTellOf}
+use Rattle.answer_views.specs.declared.tell.Telling.{Telling}
+use Rattle.answer_views.specs.Told.{IsDrawOf, IsTellOf}
 use Rattle.pafteis.specs.Called.{AnswersIf, verification_named}
 
 -- of which events a line is told, and whether one that was refused counts as a stop, by number

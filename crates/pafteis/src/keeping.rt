@@ -3,11 +3,11 @@
 ghost use Rattle.std.specs.Prelude.{◌≡◌};
 ghost use Rattle.drvhost_devices.specs.Device.{Bytes};
 ghost use Rattle.drvhost_devices.specs.Ends.{IsListOf, IsTraceOf};
-ghost use Rattle.drvhost_hunts.specs.Hunt.{IsHuntOf};
-ghost use Rattle.drvhost_mends.specs.Mend.{IsMendOf};
+ghost use Rattle.answer_hunts.specs.Hunt.{IsHuntOf};
+ghost use Rattle.answer_mends.specs.Mend.{IsMendOf};
 ghost use Rattle.drvhost_devices.specs.declared.figure.Figure.TheVariants.{Picture};
-ghost use Rattle.drvhost_sets.specs.Explained.{IsExplainedOf};
-ghost use Rattle.drvhost_views.specs.Told.{IsDrawOf, IsTellOf};
+ghost use Rattle.answer_explain.specs.Explained.{IsExplainedOf};
+ghost use Rattle.answer_views.specs.Told.{IsDrawOf, IsTellOf};
 ghost use Rattle.pafteis.specs.Called.{extent_named, verification_named};
 ghost use Rattle.pafteis.specs.Keeping.{Frees, KeepsIf, KeepsRight, KeepsTold, ReadsPiece};
 ghost use Rattle.pafteis.specs.Seeking.{asked_named, reach_named};

@@ -4,8 +4,8 @@ ghost use Rattle.std.specs.Prelude.{◌≡◌, ◌≤◌, true};
 ghost use Rattle.pafteis.specs.Seeking.{Hunts, Mends, asked_named, if_flag, is_within, reach_named};
 
 use crate::texts::{put, wrong};
+use answer_mends::mend::Asked;
 use drvhost_devices::tries::MAX_TRIES;
-use drvhost_mends::mend::Asked;
 use hunt_facts::bounds::{Bounds, Goal};
 use hunt_facts::reach::{MAX_PACKETS, MAX_WORLDS, Reach};
 use model::limits::MAX_THREADS;

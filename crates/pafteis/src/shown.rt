@@ -4,9 +4,9 @@ ghost use Rattle.pafteis.specs.Shown.{Draws, Tells, telling_named};
 ghost use Rattle.std.specs.Prelude.{◌≡◌};
 
 use crate::texts::{put, verification_of, wrong};
+use answer_views::tell::Telling;
 use drvhost_devices::manner::{Detail, Manner, Strictness};
 use drvhost_devices::verification::Verification;
-use drvhost_views::tell::Telling;
 use pafteis_parts::answers::{Run, run_as};
 use std::alloc::Global;
 

@@ -3,7 +3,7 @@ use Rattle.drvhost_devices.specs.Answer.{Answer}
 use Rattle.drvhost_devices.specs.Device.{Supply}
 use Rattle.drvhost_devices.specs.Ends.{IsTraceOf}
 use Rattle.drvhost_devices.specs.declared.figure.Figure.TheVariants.{Picture}
-use Rattle.drvhost_views.specs.Told.{IsDrawOf, IsTellOf}
+use Rattle.answer_views.specs.Told.{IsDrawOf, IsTellOf}
 use Rattle.pafteis_parts.specs.declared.answers.Run.{Run}
 use Rattle.pafteis_parts.specs.declared.answers.Run.TheVariants.{Trace, Tell, Draw}
 

@@ -6,22 +6,22 @@ ghost use Rattle.drvhost_devices.specs.Answer.{IsRuleExplained};
 ghost use Rattle.drvhost_devices.specs.Device.{Bytes, CanCount};
 ghost use Rattle.drvhost_devices.specs.Ends.{IsCheckOf, IsListOf, IsRewriteOf};
 ghost use Rattle.drvhost_devices.specs.Ready.{CanAnswer};
-ghost use Rattle.drvhost_sets.specs.Devices.{AnswersOver};
-ghost use Rattle.drvhost_hunts.specs.Hunt.{IsHuntOf};
-ghost use Rattle.drvhost_mends.specs.Mend.{IsMendOf};
-ghost use Rattle.drvhost_sets.specs.Explained.{IsExplainedOf};
+ghost use Rattle.answer_explain.specs.Devices.{AnswersOver};
+ghost use Rattle.answer_hunts.specs.Hunt.{IsHuntOf};
+ghost use Rattle.answer_mends.specs.Mend.{IsMendOf};
+ghost use Rattle.answer_explain.specs.Explained.{IsExplainedOf};
 ghost use Rattle.pafteis_parts.specs.Shown.{IsRunAs};
 
 use crate::returned::collected;
+use answer_mends::mend::Asked;
+use answer_runs::trace::trace;
+use answer_views::draw::{Drawing, draw};
+use answer_views::tell::{Telling, tell};
 use drvhost_devices::device::{Reader, Sink, Source, Writer};
 use drvhost_devices::extent::Extent;
 use drvhost_devices::figure::Figure;
 use drvhost_devices::told::Told;
 use drvhost_devices::verification::Verification;
-use drvhost_mends::mend::Asked;
-use drvhost_runs::trace::trace;
-use drvhost_views::draw::{Drawing, draw};
-use drvhost_views::tell::{Telling, tell};
 use hunt_facts::reach::Reach;
 use model::abs::Rule;
 use model::memory::OutOfMemory;
@@ -41,7 +41,7 @@ pub fn explain(alloc: Global, extent: Extent, set: &[u8]) -> Result<Told, OutOfM
     let mut source = Reader::new(Some(set));
     let mut output = Writer::new(Vec::new(alloc));
     let mut errors = Writer::new(Vec::new(alloc));
-    let exit = drvhost_sets::explaining::explain(
+    let exit = answer_explain::explaining::explain(
         alloc,
         extent,
         &mut source,
@@ -57,7 +57,7 @@ pub fn explain_rule(alloc: Global, rule: Rule) -> Result<Told, OutOfMemory>
 {
     let mut output = Writer::new(Vec::new(alloc));
     let mut errors = Writer::new(Vec::new(alloc));
-    let exit = drvhost_sets::rule::explain_rule(alloc, rule, &mut output, &mut errors);
+    let exit = answer_explain::rule::explain_rule(alloc, rule, &mut output, &mut errors);
     collected(exit, 0, 0, output, errors)
 }
 
@@ -127,7 +127,7 @@ pub fn hunt(alloc: Global, reach: Reach, set: &[u8]) -> Result<Told, OutOfMemory
     let mut source = Reader::new(Some(set));
     let mut output = Writer::new(Vec::new(alloc));
     let mut errors = Writer::new(Vec::new(alloc));
-    let exit = drvhost_hunts::hunt::hunt(alloc, reach, &mut source, &mut output, &mut errors);
+    let exit = answer_hunts::hunt::hunt(alloc, reach, &mut source, &mut output, &mut errors);
     collected(exit, source.failures(), 0, output, errors)
 }
 
@@ -138,7 +138,7 @@ pub fn mend(alloc: Global, asked: Asked, set: &[u8]) -> Result<Told, OutOfMemory
     let mut source = Reader::new(Some(set));
     let mut output = Writer::new(Vec::new(alloc));
     let mut errors = Writer::new(Vec::new(alloc));
-    let exit = drvhost_mends::mend::mend(alloc, asked, &mut source, &mut output, &mut errors);
+    let exit = answer_mends::mend::mend(alloc, asked, &mut source, &mut output, &mut errors);
     collected(exit, source.failures(), 0, output, errors)
 }
 
@@ -156,6 +156,6 @@ pub fn rewrite(alloc: Global, set: &[u8]) -> Result<Told, OutOfMemory>
     let mut source = Reader::new(Some(set));
     let mut output = Writer::new(Vec::new(alloc));
     let mut errors = Writer::new(Vec::new(alloc));
-    let exit = drvhost_sets::rewriting::rewrite(alloc, &mut source, &mut output, &mut errors);
+    let exit = answer_explain::rewriting::rewrite(alloc, &mut source, &mut output, &mut errors);
     collected(exit, source.failures(), 0, output, errors)
 }

@@ -1,8 +1,8 @@
 //! What `trace` answers of a set.
 
+use answer_runs::trace::trace;
 use drvhost_devices::device::{Reader, Sink, Source, Writer};
 use drvhost_devices::verification::Verification;
-use drvhost_runs::trace::trace;
 use std::alloc::Global;
 
 /// What is answered: the exit status, what goes out, and what the error writer is given.

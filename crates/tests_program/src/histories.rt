@@ -4,9 +4,9 @@
 ghost use Rattle.std.specs.Prelude.{◌≡◌};
 
 use crate::devices::{Narrow, Slow, have_taken};
+use answer_runs::host::Hosting;
+use answer_runs::keeping::{Keeping, host_keeping};
 use drvhost_devices::device::Sink;
-use drvhost_runs::host::Hosting;
-use drvhost_runs::keeping::{Keeping, host_keeping};
 use std::alloc::Global;
 use std::sync::Wait;
 use std::thread::Threads;

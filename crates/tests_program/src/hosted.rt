@@ -3,8 +3,8 @@
 ghost use Rattle.std.specs.Prelude.{◌≤◌};
 ghost use Rattle.model.specs.declared.limits.TheConstants.{MAX_THREADS};
 
+use answer_runs::host::{Hosting, host};
 use drvhost_devices::device::{Reader, Writer};
-use drvhost_runs::host::{Hosting, host};
 use std::alloc::{AllocError, Global};
 use std::process::Abort;
 use std::sync::Wait;

@@ -1,9 +1,9 @@
 //! The program's answers in memory, and in a buffer, as the library for C has them.
 
+use answer_mends::mend::Asked;
 use drvhost_devices::extent::Extent;
 use drvhost_devices::told::Told;
 use drvhost_devices::verification::Verification;
-use drvhost_mends::mend::Asked;
 use hunt_facts::bounds::{Bounds, Goal};
 use hunt_facts::reach::Reach;
 use model::abs::Rule;

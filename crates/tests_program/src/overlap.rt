@@ -1,7 +1,7 @@
 //! Two workers that serve a script side by side.
 
+use answer_runs::host::{Hosting, host};
 use drvhost_devices::device::{Reader, Writer};
-use drvhost_runs::host::{Hosting, host};
 use std::alloc::Global;
 use std::process::Abort;
 use std::sync::Wait;

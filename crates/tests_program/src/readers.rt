@@ -5,9 +5,9 @@ ghost use Rattle.std.specs.Prelude.{◌≡◌};
 
 use crate::devices::is_failing;
 use crate::failures::{LINES, SCHEDULE};
+use answer_runs::trace::trace;
 use drvhost_devices::device::{Reader, Sink, Source, Writer};
 use drvhost_devices::verification::Verification;
-use drvhost_runs::trace::trace;
 use std::alloc::Global;
 use std::io;
 use std::io::{ErrorKind, Read, Write};

@@ -1,7 +1,7 @@
 //! A rule in words, over a writer that fails at each call in turn.
 
 use crate::devices::{Narrow, have_taken};
-use drvhost_sets::rule::explain_rule;
+use answer_explain::rule::explain_rule;
 use model::abs::Rule;
 use std::alloc::Global;
 

@@ -1,7 +1,7 @@
 //! How many commands a script may have.
 
+use answer_runs::host::{Hosting, host};
 use drvhost_devices::device::{Reader, Writer};
-use drvhost_runs::host::{Hosting, host};
 use std::alloc::{AllocError, Global};
 use std::sync::Wait;
 use std::thread::Threads;

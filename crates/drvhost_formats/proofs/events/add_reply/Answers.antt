@@ -1,5 +1,5 @@
 use Rattle.std.proofs.lemmas.Result.{err_from_is_err_and}
-use Rattle.drvhost_runs.proofs.Following.{breaks_before}
+use Rattle.answer_runs.proofs.Following.{breaks_before}
 use Rattle.drvhost_formats.proofs.Telling.{adds_cut}
 use Rattle.drvhost_formats.proofs.events.add_reply.Goals as goal
 

@@ -1,7 +1,7 @@
 use Rattle.std.proofs.lemmas.Result.{err_from_is_err_and}
 use Rattle.drvhost_formats.specs.Trace.{event_lines}
 use Rattle.drvhost_formats.proofs.EventLines.{lines_on}
-use Rattle.drvhost_runs.proofs.Together.{steps_break, told_added, told_breaks}
+use Rattle.answer_runs.proofs.Together.{steps_break, told_added, told_breaks}
 use Rattle.drvhost_formats.proofs.events.add_told.Goals as goal
 
 pub returns-in_err-add_replies-clause-broken : goal.returns-in_err-add_replies-clause-broken

@@ -1,7 +1,7 @@
 use Rattle.std.proofs.Common.{refl}
 use Rattle.drvhost_devices.proofs.Writing.{adds_none}
 use Rattle.drvhost_formats.proofs.EventLines.{observed_lines, observed_out, observed_reads, observed_tells, observed_writes}
-use Rattle.drvhost_runs.specs.Watching.{ShowsOf}
+use Rattle.answer_runs.specs.Watching.{ShowsOf}
 use Rattle.drvhost_formats.proofs.events.write_run.Goals as goal
 
 pub observe-requires-clause-fresh : goal.observe-requires-clause-fresh

@@ -1,5 +1,5 @@
 use Rattle.drvhost_formats.specs.Explain.{IsExplainJsonOf}
-use Rattle.drvhost_sets.proofs.Answering.{alone}
+use Rattle.answer_explain.proofs.Answering.{alone}
 use Rattle.drvhost_formats.proofs.explain.explain_json.Goals as goal
 
 pub returns : goal.returns

@@ -2,7 +2,7 @@ use Rattle.std.proofs.Common.{Err, Result, subst}
 use Rattle.interleave.specs.declared.schedule.Schedule.{Schedule}
 use Rattle.interleave.specs.declared.schedule.ScheduleFault.{ScheduleFault}
 use Rattle.report_json.specs.declared.fault.InputFault.TheVariants as input
-use Rattle.drvhost_sets.specs.Chosen.{set_chosen}
+use Rattle.answer_explain.specs.Chosen.{set_chosen}
 use Rattle.drvhost_formats.specs.Trace.{IsRunJsonOf, ReadsIn}
 use Rattle.drvhost_formats.proofs.Telling.{fault_line, tells_added}
 use Rattle.drvhost_formats.proofs.trace.trace_chosen.Goals as goal

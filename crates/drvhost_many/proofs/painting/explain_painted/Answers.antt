@@ -1,5 +1,5 @@
 use Rattle.std.proofs.Common.{◌∙◌, Some, ap, refl}
-use Rattle.drvhost_sets.specs.Explained.{IsFileExplained}
+use Rattle.answer_explain.specs.Explained.{IsFileExplained}
 use Rattle.drvhost_many.proofs.Colored.{collected_painted}
 use Rattle.drvhost_many.proofs.painting.explain_painted.Goals as goal
 

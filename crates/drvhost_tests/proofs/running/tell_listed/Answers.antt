@@ -4,7 +4,7 @@ use Rattle.drvhost_devices.specs.declared.verification.Verification.TheVariants.
 use Rattle.drvhost_devices.proofs.Collected.{both_right}
 use Rattle.drvhost_tests.proofs.running.tell_listed.Goals as goal
 use Rattle.drvhost_tests.specs.Tests.{usual}
-use Rattle.drvhost_views.specs.Told.{IsTellOf}
+use Rattle.answer_views.specs.Told.{IsTellOf}
 
 pub returns : goal.returns
 returns c =

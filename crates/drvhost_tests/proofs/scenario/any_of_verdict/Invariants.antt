@@ -1,6 +1,6 @@
 use Rattle.std.proofs.Common.{◌≡◌, take}
 use Rattle.std.specs.List.{list_any}
-use Rattle.drvhost_scenarios.specs.Scenarios.{names_in}
+use Rattle.answer_scenarios.specs.Scenarios.{names_in}
 use Rattle.drvhost_tests.specs.Tests.{is_held_of_verdict}
 use Rattle.drvhost_tests.proofs.scenario.any_of_verdict.Given as goal
 

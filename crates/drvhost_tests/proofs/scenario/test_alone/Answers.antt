@@ -1,4 +1,4 @@
-use Rattle.drvhost_scenarios.specs.Scenarios.{names_in}
+use Rattle.answer_scenarios.specs.Scenarios.{names_in}
 use Rattle.report.specs.Fault.{schedule_fault_line}
 use Rattle.scenario_text.specs.Listing.{scenario_in}
 use Rattle.drvhost_tests.proofs.Gathering.{ok_on, scenario_faulty, scenario_plays}

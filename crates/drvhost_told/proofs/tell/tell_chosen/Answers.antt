@@ -2,7 +2,7 @@ use Rattle.std.proofs.Common.{arith}
 use Rattle.std.proofs.lemmas.Result.{IfOk-weaker}
 use Rattle.drvhost_formats.specs.declared.outcome.Outcome.{Outcome}
 use Rattle.drvhost_formats.specs.Told.{told}
-use Rattle.drvhost_sets.specs.Chosen.{set_chosen}
+use Rattle.answer_explain.specs.Chosen.{set_chosen}
 use Rattle.drvhost_told.specs.Tell.{IsRunToldOf, IsScheduleTold}
 use Rattle.drvhost_told.proofs.Making.{made_in_memory, none_read}
 use Rattle.drvhost_told.proofs.tell.tell_chosen.Goals as goal

@@ -1,8 +1,8 @@
 use Rattle.std.proofs.Common.{◌≡◌, ◌∙◌, None, arith, ap, sym}
 use Rattle.drvhost_devices.specs.declared.verification.Verification.TheVariants.{Required}
 use Rattle.drvhost_files.specs.Files.{contents_of, failures_of}
-use Rattle.drvhost_runs.specs.Keeping.{IsKeptOf, IsKeptWith}
-use Rattle.drvhost_runs.specs.Readiness.{AreWarningsOf}
+use Rattle.answer_runs.specs.Keeping.{IsKeptOf, IsKeptWith}
+use Rattle.answer_runs.specs.Readiness.{AreWarningsOf}
 use Rattle.drvhost_words.specs.Unread.{IsOneOf}
 use Rattle.drvhost_words.proofs.Answering.{answers_warned, opens_for_run, unopened}
 use Rattle.drvhost_words.proofs.Kept.{keeping_known, keeps_history, kept_known, warnings_known}

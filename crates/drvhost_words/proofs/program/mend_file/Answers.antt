@@ -4,7 +4,7 @@ use Rattle.drvhost_devices.specs.Device.{Supply}
 use Rattle.drvhost_files.specs.Files.{Stores, contents_of, failures_of}
 use Rattle.drvhost_many.proofs.Known.{closed_known}
 use Rattle.drvhost_many.proofs.Judged.{may_be_closed}
-use Rattle.drvhost_mends.specs.Apply.{IsApplyOf}
+use Rattle.answer_mends.specs.Apply.{IsApplyOf}
 use Rattle.drvhost_words.specs.Program.{IsOfApply}
 use Rattle.drvhost_words.specs.Unread.{IsNamedUnread}
 use Rattle.drvhost_words.proofs.Answering.{answers_alone, answers_unread}

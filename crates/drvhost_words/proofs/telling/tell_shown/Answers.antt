@@ -1,5 +1,5 @@
 use Rattle.std.proofs.Common.{◌∙◌, Some, ap, refl}
-use Rattle.drvhost_views.specs.Told.{IsTellOf}
+use Rattle.answer_views.specs.Told.{IsTellOf}
 use Rattle.drvhost_many.proofs.Colored.{collected_painted}
 use Rattle.drvhost_words.proofs.telling.tell_shown.Goals as goal
 

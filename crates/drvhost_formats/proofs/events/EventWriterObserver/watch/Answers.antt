@@ -1,8 +1,8 @@
 use Rattle.std.proofs.Common.{◌∙◌, ◌+◌, ap, arith, refl, sym}
 use Rattle.std.proofs.lemmas.Result.{err_from_is_err_and}
-use Rattle.drvhost_runs.specs.Repeats.{told_by}
-use Rattle.drvhost_runs.proofs.Following.{length_told}
-use Rattle.drvhost_runs.proofs.Lining.{takes_told, up_told}
+use Rattle.answer_runs.specs.Repeats.{told_by}
+use Rattle.answer_runs.proofs.Following.{length_told}
+use Rattle.answer_runs.proofs.Lining.{takes_told, up_told}
 use Rattle.drvhost_formats.proofs.EventLines.{events_break, events_on}
 use Rattle.drvhost_formats.proofs.events.EventWriterObserver.watch.Goals as goal
 

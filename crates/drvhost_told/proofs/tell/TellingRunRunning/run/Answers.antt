@@ -1,5 +1,5 @@
 use Rattle.std.proofs.Common.{arith}
-use Rattle.drvhost_sets.specs.Chosen.{set_chosen}
+use Rattle.answer_explain.specs.Chosen.{set_chosen}
 use Rattle.drvhost_told.specs.Tell.{IsRunToldOf}
 use Rattle.drvhost_told.proofs.Making.{none_written, tells_made}
 use Rattle.drvhost_told.proofs.tell.TellingRunRunning.run.Goals as goal

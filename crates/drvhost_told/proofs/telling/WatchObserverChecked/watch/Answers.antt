@@ -1,8 +1,8 @@
 use Rattle.std.proofs.Common.{[], arith, refl}
 use Rattle.std.proofs.lemmas.Result.{err_from_is_err_and}
 use Rattle.model.specs.Machine.{Machine, ShowsWhole}
-use Rattle.drvhost_runs.proofs.Observing.{takes_same}
-use Rattle.drvhost_runs.proofs.Repeating.{once}
+use Rattle.answer_runs.proofs.Observing.{takes_same}
+use Rattle.answer_runs.proofs.Repeating.{once}
 use Rattle.drvhost_told.proofs.ToldRuns.{telling_on}
 use Rattle.drvhost_told.proofs.telling.WatchObserverChecked.watch.Goals as goal
 

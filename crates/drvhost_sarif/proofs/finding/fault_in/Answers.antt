@@ -1,6 +1,0 @@
-use Rattle.drvhost_sarif.proofs.Single.{fault_found}
-use Rattle.drvhost_sarif.proofs.finding.fault_in.Goals as goal
-
-pub returns : goal.returns
-returns c =
-    fault_found _ _ _ _ _ _ c.in_ok-finding.ensures c.one.ensures.status c.one.ensures.findings
