@@ -52,5 +52,5 @@ in_a_cycle edges =
     }
 
 abbrev pub order_value : LockOrder → LockOrderValue
-order_value (Ordered locks) = ordered locks.items
+order_value (Ordered locks) = ordered locks.all.items
 order_value (Cycle edges) = in_a_cycle edges.items

@@ -85,7 +85,7 @@ pub fn order_value(order: &LockOrder) -> LockOrderValue
     ensures { result ≡ order_value order.now }
 {
     match order {
-        LockOrder::Ordered(locks) => ordered(locks.as_slice()),
+        LockOrder::Ordered(locks) => ordered(locks.all.as_slice()),
         LockOrder::Cycle(edges) => in_a_cycle(edges.as_slice()),
     }
 }

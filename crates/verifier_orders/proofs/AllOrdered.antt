@@ -57,7 +57,7 @@ no_driver set driver late = (
 
 order_by : (set : Set) (driver : ℕ) (order : LockOrder) → IsLockOrder set driver order
     → IsOrdered order → (place : Guard → ℕ) × IsOrder set driver place
-order_by set driver (Ordered locks) is ordered = (is.place, is.order)
+order_by set driver (Ordered locks) is ordered = (is.0.place, is.0.order)
 order_by set driver (Cycle edges) is ordered = absurd ordered
 
 some_order : (orders : List LockOrder) (k : ℕ) → k < length orders

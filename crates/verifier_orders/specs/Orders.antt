@@ -7,6 +7,7 @@ use Rattle.model.specs.Set.{Set}
 use Rattle.laws_runs.specs.Order.{IsOrder, TakesUnder, lock_names}
 use Rattle.verifier_orders.specs.declared.names.Edge.{Edge}
 use Rattle.verifier_orders.specs.declared.order.LockOrder.{LockOrder}
+use Rattle.verifier_orders.specs.declared.order.Locks.{Locks}
 use Rattle.verifier_orders.specs.declared.order.LockOrder.TheVariants.{Ordered, Cycle}
 use Rattle.verifier_orders.specs.Edges.{HasNoOrder, number_of}
 
@@ -97,9 +98,14 @@ is_of lock e = same_lock e.held lock || same_lock e.taken lock
 abbrev pub is_in : List Edge → Guard → Bool
 is_in pairs lock = list_any (is_of lock) pairs
 
+-- a driver's nine locks in an order, and those of them that are in a pair
+abbrev pub AreOrderedSo : Set → ℕ → Locks → Type 0
+AreOrderedSo set driver locks =
+    AreOrdered set driver locks.all.items × ArePaired set driver locks.paired.items
+
 -- a driver's locks in an order, or a shortest cycle where there is none
 abbrev pub IsLockOrder : Set → ℕ → LockOrder → Type 0
-IsLockOrder set driver (Ordered locks) = AreOrdered set driver locks.items
+IsLockOrder set driver (Ordered locks) = AreOrderedSo set driver locks
 IsLockOrder set driver (Cycle edges) =
     IsShortestCycle set driver edges.items × HasNoOrder set driver
 

@@ -2,10 +2,12 @@
 
 ghost use Rattle.std.specs.Prelude.{◌≡◌, IfOk};
 ghost use Rattle.std.specs.List.{filter, list_any};
+ghost use Rattle.verifier_orders.specs.Edges.{AreEdgesOf};
 ghost use Rattle.verifier_orders.specs.Orders.{AreOrdered, ArePaired, is_in, is_of, same_lock};
 
 use crate::names::Edge;
 use crate::order::pairs_of;
+use crate::ranking::NumberedEdge;
 use model::set::Guard;
 use std::alloc::{AllocError, Global};
 use verifier::Accepted;
@@ -50,20 +52,18 @@ fn locks_in(alloc: Global, pairs: &[Edge], locks: &[Guard]) -> Result<Vec<Guard>
 }
 
 /// Of the locks of a driver of an accepted set, in their order, those of which a routine takes one
-/// while it holds another. There is none where no routine holds two locks at once.
-///
-/// # Errors
-///
-/// When memory runs out.
-pub fn paired_locks(
+/// while it holds another, by the driver's edges.
+pub(crate) fn paired_locks(
     alloc: Global,
     accepted: &Accepted,
     driver: u8,
+    edges: &[NumberedEdge],
     locks: &[Guard],
 ) -> Result<Vec<Guard>, AllocError>
-    requires { AreOrdered accepted.now driver locks.now }
+    requires edges { AreEdgesOf accepted.now driver edges.now }
+    requires ordered { AreOrdered accepted.now driver locks.now }
     ensures { IfOk result (λ paired. ArePaired accepted.now driver paired.items) }
 {
-    let pairs = pairs_of(alloc, accepted, driver)?;
+    let pairs = pairs_of(alloc, accepted, driver, edges)?;
     locks_in(alloc, pairs.as_slice(), locks)
 }

@@ -31,7 +31,7 @@ line_added orders count order old new low is are (line, warns, all) =
 warned_on : (set : Set) (driver : ℕ) (order : LockOrder) (line : List ℕ)
     → IsLockOrder set driver order → Warns order line → IsWarningOn set driver line
 warned_on set driver (Ordered locks) line is (inl (ordered, none)) =
-    inl ((is.place, is.order), none)
+    inl ((is.0.place, is.0.order), none)
 warned_on set driver (Ordered locks) line is (inr (cycle, ends)) = absurd cycle
 warned_on set driver (Cycle edges) line is (inl (ordered, none)) = absurd ordered
 warned_on set driver (Cycle edges) line is (inr (cycle, ends)) = inr (is.1, ends)

@@ -3,7 +3,7 @@
 
 ghost use Rattle.std.specs.Prelude.{◌≡◌, ◌++◌, IfOk, false, length, slice_get, string_bytes};
 ghost use Rattle.std.specs.List.{list_any};
-ghost use Rattle.verifier_orders.specs.Orders.{AreLockOrders, AreOrdered, IsLockOrder};
+ghost use Rattle.verifier_orders.specs.Orders.{AreLockOrders, ArePaired, IsLockOrder};
 ghost use Rattle.verifier_warnings.specs.Lines.{IsOrderLine, comma, is_taking, lock_name};
 ghost use Rattle.verifier_warnings.specs.Lines.{names_to, order_words, takes_in, takes_lock};
 ghost use Rattle.verifier_warnings.specs.Orders.{EndsWith};
@@ -15,7 +15,7 @@ use model::instr::Instr;
 use model::set::{Driver, Guard, Routine};
 use std::alloc::{AllocError, Global};
 use verifier::Accepted;
-use verifier_orders::{LockOrder, paired_locks};
+use verifier_orders::LockOrder;
 use words::Words;
 
 /// The lines of all drivers, in order.
@@ -54,28 +54,28 @@ fn order_line(
             accepted,
             telling,
             number,
-            locks.as_slice(),
+            locks.paired.as_slice(),
         ),
         LockOrder::Cycle(_) => Ok(String::new(alloc)),
     }
 }
 
-/// The line of a driver of which the nine locks are in this order, or nothing where it takes none.
+/// The line of a driver that takes these locks two at once, in this order, or nothing where it takes
+/// no lock.
 fn ordered_line(
     alloc: Global,
     accepted: &Accepted,
     telling: &Telling<'_, '_>,
     number: u8,
-    locks: &[Guard],
+    paired: &[Guard],
 ) -> Result<String, AllocError>
-    requires { AreOrdered accepted.now number locks.now }
+    requires { ArePaired accepted.now number paired.now }
     ensures { IfOk result (λ line. IsOrderLine accepted.now number (string_bytes line)) }
 {
     if !takes_lock(accepted.set(), number) {
         return Ok(String::new(alloc));
     }
-    let paired = paired_locks(alloc, accepted, number, locks)?;
-    line_of(alloc, telling, number, paired.as_slice())
+    line_of(alloc, telling, number, paired)
 }
 
 /// The line of a driver that takes these locks two at once.

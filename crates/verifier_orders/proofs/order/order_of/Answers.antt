@@ -3,33 +3,12 @@ use Rattle.model.specs.Sound.{IsSound}
 use Rattle.verifier_orders.specs.declared.names.Edge.{Edge}
 use Rattle.verifier_orders.specs.declared.ranking.NumberedEdge.{NumberedEdge}
 use Rattle.verifier_orders.specs.Cycle.{IsLeastCycle}
-use Rattle.verifier_orders.specs.Edges.{place_in}
 use Rattle.verifier_orders.specs.Names.{all_named}
 use Rattle.verifier_orders.specs.Orders.{IsShortestCycle}
-use Rattle.verifier_orders.specs.Ranking.{AreRanked, AreWithin}
+use Rattle.verifier_orders.specs.Ranking.{AreWithin}
 use Rattle.verifier_orders.proofs.Least.{shortest_named}
-use Rattle.verifier_orders.proofs.Ordering.{cycle_shown, cycle_within, no_order, ranked_order}
-use Rattle.verifier_orders.proofs.Standing.{stands}
+use Rattle.verifier_orders.proofs.Ordering.{cycle_shown, cycle_within, no_order}
 use Rattle.verifier_orders.proofs.order.order_of.Goals as goal
-
-pub returns-in-Ok : goal.returns-in-Ok
-returns-in-Ok c =
-    record {
-      place = place_in c.in-Ok.places;
-      order = ranked_order c.args.accepted.now c.args.driver c.in_ok-edges.edges.items
-          c.in-Ok.places (c.in_ok-edges.ensures {u = tt})
-          (subst (λ (xs : List NumberedEdge). AreRanked xs c.in-Ok.places)
-          c.as_slice.ensures.value c.in-Ok.ensures.ranked);
-      nine = (c.in_ok-locks_by_place-in-Ok.ensures {u = tt}).long;
-      placed = (c.in_ok-locks_by_place-in-Ok.ensures {u = tt}).each;
-      has = stands c.args.accepted.now c.set.ensures.typable
-          (subst IsSound c.set.ensures.same c.drivers-drivers.ensures.sound) c.args.driver
-          c.in_ok-edges.edges.items c.in-Ok.places _
-          (c.in_ok-edges.ensures {u = tt})
-          (subst (λ (xs : List NumberedEdge). AreRanked xs c.in-Ok.places)
-          c.as_slice.ensures.value c.in-Ok.ensures.ranked)
-          (c.in_ok-locks_by_place-in-Ok.ensures {u = tt});
-    }
 
 pub edges_named-requires : goal.edges_named-requires
 edges_named-requires c =

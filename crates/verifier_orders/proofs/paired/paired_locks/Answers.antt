@@ -18,6 +18,6 @@ returns c =
     (λ found is.
     subst (λ (xs : List Guard). ArePaired set driver xs)
     (sym (is ∙ ap (λ (pairs : List Edge). filter (is_in pairs) locks) c.as_slice.ensures.value))
-    (paired set driver c.in_ok-pairs.pairs.items locks c.requires
+    (paired set driver c.in_ok-pairs.pairs.items locks c.requires.ordered
     (c.in_ok-pairs.ensures {u = tt})))
     c.locks_in.ensures

@@ -9,13 +9,12 @@ use Rattle.verifier_warnings.proofs.lines.ordered_line.Goals as goal
 pub returns : goal.returns
 returns c =
     let set = c.args.accepted.now in
-    let paired = c.in_ok-paired.paired.items in
+    let paired = c.args.paired.now in
     let takes : paired ≡ [] → takes_lock (slice_get set.drivers c.args.number) ≡ true = λ none.
     ap (λ (given : Set). takes_lock (slice_get given.drivers c.args.number)) (sym c.set.ensures.same)
     ∙ sym c.takes_lock.ensures ∙ c.if-not-takes_lock.false in
     IfOk-weaker c.line_of.result
-    (λ line. EndsWith (string_bytes line) (order_words c.as_slice.result.now))
+    (λ line. EndsWith (string_bytes line) (order_words paired))
     (λ line. IsOrderLine set c.args.number (string_bytes line))
-    (λ line ends. order_line_by set c.args.number paired (string_bytes line)
-    (c.in_ok-paired.ensures {u = tt}) takes (rw c.as_slice.ensures.value at ends))
+    (λ line ends. order_line_by set c.args.number paired (string_bytes line) c.requires takes ends)
     c.line_of.ensures
