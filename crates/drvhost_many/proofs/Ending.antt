@@ -8,8 +8,8 @@ use Rattle.std.specs.Io.KnownBytes.{Appends, Keeps}
 use Rattle.drvhost_devices.specs.Answer.{Answer}
 use Rattle.drvhost_devices.specs.Device.{Says, SaysBehind, Supply, TakesBeginning}
 use Rattle.drvhost_devices.proofs.Writing.{appends_more, appends_none, behind_more, keeps_same, writes_behind}
-use Rattle.drvhost_commands.specs.declared.job.Judging.{Judging}
-use Rattle.drvhost_commands.specs.declared.job.Judging.TheVariants.{Check, CheckJson, Explain, ExplainJson}
+use Rattle.cli.specs.declared.job.Judging.{Judging}
+use Rattle.cli.specs.declared.job.Judging.TheVariants.{Check, CheckJson, Explain, ExplainJson}
 use Rattle.drvhost_files.specs.declared.reading.Held.{Held}
 use Rattle.drvhost_files.specs.Reading.{AreHeld, Opens, held_reads}
 use Rattle.drvhost_many.specs.declared.many.Halt.{Halt}

@@ -6,7 +6,7 @@ use Rattle.drvhost_devices.specs.Answer.{Answer}
 use Rattle.drvhost_devices.specs.Device.{Says, SaysBehind, TakesBeginning}
 use Rattle.drvhost_devices.specs.Told.{joined}
 use Rattle.drvhost_devices.proofs.Writing.{appends_more, appends_none, behind_more, keeps_same, writes_behind}
-use Rattle.drvhost_commands.specs.declared.job.Judging.{Judging}
+use Rattle.cli.specs.declared.job.Judging.{Judging}
 use Rattle.drvhost_files.specs.declared.reading.Held.{Held}
 use Rattle.drvhost_many.specs.All.{nothing}
 use Rattle.drvhost_many.specs.Held.{AreToldOf, DeliversEach, IsAmong, IsToldOf}

@@ -3,7 +3,7 @@ use Rattle.std.proofs.Common.{◌≡◌, ◌∙◌, ◌+◌, ◌≤◌, ℕ, Lis
 use Rattle.std.specs.Global.{Global}
 use Rattle.drvhost_devices.specs.Answer.{Answer}
 use Rattle.drvhost_devices.specs.Device.{Supply}
-use Rattle.drvhost_commands.specs.declared.job.Judging.{Judging}
+use Rattle.cli.specs.declared.job.Judging.{Judging}
 use Rattle.drvhost_devices.specs.Told.{joined}
 use Rattle.drvhost_many.specs.All.{AreOf, nothing}
 use Rattle.drvhost_many.specs.Marked.{named_answer}

@@ -3,8 +3,8 @@ use Rattle.std.proofs.Common.{◌≡◌, ℕ, List, true}
 use Rattle.drvhost_devices.specs.Answer.{Answer}
 use Rattle.drvhost_devices.specs.Device.{Closed, MayBeClosed, Supply}
 pub use Rattle.answer.proofs.Delivering.{answers_rightly, ends_rightly}
-use Rattle.drvhost_commands.specs.declared.job.Judging.{Judging}
-use Rattle.drvhost_commands.specs.declared.job.Judging.TheVariants.{Check, CheckJson, Explain, ExplainJson}
+use Rattle.cli.specs.declared.job.Judging.{Judging}
+use Rattle.cli.specs.declared.job.Judging.TheVariants.{Check, CheckJson, Explain, ExplainJson}
 use Rattle.answer.specs.Told.{IsUnopenedJson}
 use Rattle.drvhost_many.specs.One.{IsUnopenedAs, is_in_json}
 

@@ -3,8 +3,8 @@ use Rattle.std.proofs.Common.{ℕ, List, subst}
 use Rattle.drvhost_devices.specs.Answer.{Answer}
 use Rattle.drvhost_devices.specs.Device.{Bytes, Closed, IsSuppliedAs, MayBeClosed, Supply, Unknown}
 use Rattle.drvhost_files.proofs.Known.{holds_known}
-use Rattle.drvhost_commands.specs.declared.job.Judging.{Judging}
-use Rattle.drvhost_commands.specs.declared.job.Judging.TheVariants.{Check, CheckJson, Explain, ExplainJson}
+use Rattle.cli.specs.declared.job.Judging.{Judging}
+use Rattle.cli.specs.declared.job.Judging.TheVariants.{Check, CheckJson, Explain, ExplainJson}
 use Rattle.drvhost_devices.specs.declared.coloring.Coloring.TheVariants.{Auto, Always, Never}
 use Rattle.drvhost_many.specs.One.{IsJudged}
 

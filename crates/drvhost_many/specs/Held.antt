@@ -2,7 +2,7 @@
 use Rattle.std.specs.Prelude.{ℕ, ◌≡◌, ◌+◌, ◌++◌, List, [], ◌∷◌, codes, Option, Result, Ok, Err, String, string_bytes}
 use Rattle.std.specs.Global.{Global}
 use Rattle.std.specs.Io.KnownBytes.{Appends}
-use Rattle.drvhost_commands.specs.declared.job.Judging.{Judging}
+use Rattle.cli.specs.declared.job.Judging.{Judging}
 use Rattle.drvhost_devices.specs.Answer.{Answer, faulty}
 use Rattle.drvhost_devices.specs.Device.{Bytes, TakesBeginning}
 use Rattle.answer.specs.Told.{IsUnopenedJson}

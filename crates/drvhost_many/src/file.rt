@@ -16,7 +16,7 @@ use answer::deliver::deliver;
 use answer::form::Form;
 use answer::judged::Judged;
 use answer_explain::showing::Explained;
-use drvhost_commands::job::Judging;
+use cli::job::Judging;
 use drvhost_devices::device::{Reader, Sink, Source, Writer};
 use drvhost_devices::told::{Told, collected};
 use drvhost_files::reading::{Contents, Held};

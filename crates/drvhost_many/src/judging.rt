@@ -6,7 +6,7 @@ ghost use Rattle.drvhost_files.specs.Reading.{AreAnswered, Opens};
 ghost use Rattle.drvhost_many.specs.Held.{IsToldOf};
 
 use crate::file::answer_held;
-use drvhost_commands::job::Judging;
+use cli::job::Judging;
 use drvhost_devices::told::Told;
 use drvhost_files::files::{Disk, Files};
 use drvhost_files::reading::{Answered, Answering, Held, Way};

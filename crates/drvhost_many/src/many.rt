@@ -17,7 +17,7 @@ ghost use Rattle.drvhost_many.specs.One.{Delivers, IsLost, halt_status};
 use crate::file::is_in_json;
 use crate::judging::JudgedFiles;
 use crate::named::{One, tell_no_memory};
-use drvhost_commands::job::Judging;
+use cli::job::Judging;
 use drvhost_devices::device::{Failed, Sink};
 use drvhost_devices::told::Told;
 use drvhost_devices::transfer::write_whole;

@@ -4,7 +4,7 @@ ghost use Rattle.std.specs.Prelude.{◌≡◌, IfOk, codes, true};
 ghost use Rattle.drvhost_devices.specs.Device.{CanCount, SaysBehind};
 ghost use Rattle.drvhost_many.specs.Marked.{gap, headed, lines_named, marked, named_answer, noted};
 
-use drvhost_commands::job::Judging;
+use cli::job::Judging;
 use drvhost_devices::device::Sink;
 use drvhost_devices::told::Told;
 use drvhost_devices::unopened::say_behind;

@@ -1,7 +1,7 @@
 -- How what tests answer is reported: in lines, or in the forms of TAP and of JUnit.
 use Rattle.std.specs.Prelude.{ℕ, ◌++◌, ◌&&◌, ◌||◌, Bool, true, nat_eq, nat_le, List, [], ◌∷◌, codes, decimal, flat_map, if◌then◌else◌}
-use Rattle.drvhost_commands.specs.declared.job.Report.{Report}
-use Rattle.drvhost_commands.specs.declared.job.Report.TheVariants.{Lines, Tap, JUnit}
+use Rattle.cli.specs.declared.job.Report.{Report}
+use Rattle.cli.specs.declared.job.Report.TheVariants.{Lines, Tap, JUnit}
 use Rattle.drvhost_devices.specs.Answer.{Answer}
 use Rattle.drvhost_many.specs.Marked.{lines_named}
 

@@ -3,7 +3,7 @@ use Rattle.std.specs.Prelude.{ℕ, ⊤, ◌≡◌, ◌≢◌, ◌≤◌, ◌+◌
 use Rattle.std.specs.Borrow.{Bor}
 use Rattle.std.specs.Global.{Global}
 use Rattle.std.specs.List.{All, list_any}
-use Rattle.drvhost_commands.specs.declared.job.Report.{Report}
+use Rattle.cli.specs.declared.job.Report.{Report}
 use Rattle.drvhost_devices.specs.Answer.{Answer, FileSays, ended, faulty}
 use Rattle.drvhost_devices.specs.Device.{Bytes, Holds, Supply}
 use Rattle.drvhost_devices.specs.Ends.{Ends}

@@ -6,7 +6,7 @@ ghost use Rattle.drvhost_tests.specs.Reports.{alone, entry, escaped, escaped_byt
 ghost use Rattle.drvhost_tests.specs.Reports.{problem, reported, sheet, suite, suite_head};
 ghost use Rattle.drvhost_tests.specs.Reports.{tap_point, tap_sheet, test_case, words};
 
-use drvhost_commands::job::Report;
+use cli::job::Report;
 use drvhost_devices::told::Told;
 use drvhost_many::named::name_lines;
 use interleave_texts::appending::{add, add_numbered};

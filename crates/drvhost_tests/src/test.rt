@@ -9,7 +9,7 @@ ghost use Rattle.drvhost_tests.specs.Tests.{AreOfPaths, Gathers, TestsEnd};
 ghost use Rattle.drvhost_tests.specs.Told.{asked_of};
 
 use crate::set::test_set;
-use drvhost_commands::job::Report;
+use cli::job::Report;
 use drvhost_devices::device::Sink;
 use drvhost_devices::fault::no_memory;
 use drvhost_devices::told::{Told, deliver};

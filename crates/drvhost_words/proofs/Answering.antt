@@ -8,17 +8,17 @@ use Rattle.drvhost_devices.specs.Device.{IsSuppliedAs, Says, Supply}
 use Rattle.drvhost_devices.specs.Ends.{Answers, Ends, HoldsRun, IsCheckOf, IsRewriteOf, OutOfMemory, ReadFailed, Rightly, WriteFailed}
 use Rattle.answer_runs.specs.Readiness.{SaysWarned}
 use Rattle.drvhost_devices.specs.declared.verification.Verification.{Verification}
-use Rattle.drvhost_commands.specs.declared.job.Form.{Form}
-use Rattle.drvhost_commands.specs.declared.job.Form.TheVariants.{Lines, Json}
-use Rattle.drvhost_commands.specs.declared.job.Job.{Job}
-use Rattle.drvhost_commands.specs.declared.job.Task.{Task}
-use Rattle.drvhost_commands.specs.declared.job.Task.TheVariants.{Mend, List as Listing, Hunt, HuntExactly, Find, FindExactly}
-use Rattle.drvhost_commands.specs.declared.job.Way.{Way}
-use Rattle.drvhost_commands.specs.declared.job.Way.TheVariants.{Trace, TraceJson, Tell, TellJson, Draw, Schedule}
-use Rattle.drvhost_commands.specs.declared.job.JobFault.{JobFault}
+use Rattle.cli.specs.declared.job.Form.{Form}
+use Rattle.cli.specs.declared.job.Form.TheVariants.{Lines, Json}
+use Rattle.cli.specs.declared.job.Job.{Job}
+use Rattle.cli.specs.declared.job.Task.{Task}
+use Rattle.cli.specs.declared.job.Task.TheVariants.{Mend, List as Listing, Hunt, HuntExactly, Find, FindExactly}
+use Rattle.cli.specs.declared.job.Way.{Way}
+use Rattle.cli.specs.declared.job.Way.TheVariants.{Trace, TraceJson, Tell, TellJson, Draw, Schedule}
+use Rattle.cli.specs.declared.job.JobFault.{JobFault}
 use Rattle.drvhost_devices.specs.declared.coloring.Coloring.TheVariants.{Auto, Always, Never}
-use Rattle.drvhost_commands.specs.declared.job.JobFault.TheVariants.{Memory, Usage}
-use Rattle.drvhost_commands.specs.CommandLine.{Names, job_fault_status, job_fault_told, program, text_told}
+use Rattle.cli.specs.declared.job.JobFault.TheVariants.{Memory, Usage}
+use Rattle.cli.specs.CommandLine.{Names, job_fault_status, job_fault_told, program, text_told}
 use Rattle.drvhost_files.specs.Files.{supply_of}
 use Rattle.drvhost_files.proofs.Known.{holds_known}
 use Rattle.drvhost_many.specs.All.{Counted}

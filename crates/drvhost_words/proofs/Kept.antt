@@ -2,7 +2,7 @@
 use Rattle.std.proofs.Common.{◌≡◌, ◌+◌, ◌⊎◌, ℕ, List, [], Option, None, Some, ap, arith, inl, inr, refl, subst, sym}
 use Rattle.std.proofs.lemmas.List.{append-nil}
 use Rattle.std.specs.Io.KnownBytes.{Appends}
-use Rattle.drvhost_commands.specs.declared.job.Form.TheVariants.{Lines}
+use Rattle.cli.specs.declared.job.Form.TheVariants.{Lines}
 use Rattle.drvhost_devices.specs.Answer.{Answer}
 use Rattle.drvhost_devices.specs.Device.{IsSuppliedAs, Supply}
 use Rattle.drvhost_files.specs.Files.{IsWritten, blank, contents_of}

@@ -25,20 +25,20 @@ use Rattle.answer_runs.specs.Keeping.{IsKeptOf, IsKeptWith}
 use Rattle.answer_runs.specs.Readiness.{AreWarningsOf}
 use Rattle.answer_runs.specs.Served.{IsHostOf}
 use Rattle.answer_views.specs.Told.{IsDrawOf, IsTellOf}
-use Rattle.drvhost_commands.specs.declared.job.Form.{Form}
-use Rattle.drvhost_commands.specs.declared.job.Form.TheVariants.{Lines, Json}
-use Rattle.drvhost_commands.specs.declared.job.Job.{Job}
-use Rattle.drvhost_commands.specs.declared.job.Job.TheVariants.{Page as OfPage, OnPaths, Log, Test, Rewrite, Apply, OnSet, OnRun, Host, Keep}
-use Rattle.drvhost_commands.specs.declared.job.Page.{Page}
-use Rattle.drvhost_commands.specs.declared.job.Page.TheVariants.{Rule, LockOrder, Version}
-use Rattle.drvhost_commands.specs.declared.job.Task.{Task}
-use Rattle.drvhost_commands.specs.declared.job.Task.TheVariants.{Mend, List as Listing, Hunt, HuntExactly, Find, FindExactly}
-use Rattle.drvhost_commands.specs.declared.job.Judging.{Judging}
-use Rattle.drvhost_commands.specs.declared.job.Judging.TheVariants.{Check, CheckJson, Explain, ExplainJson}
-use Rattle.drvhost_commands.specs.declared.job.Testing.{Testing}
-use Rattle.drvhost_commands.specs.declared.job.Way.{Way}
-use Rattle.drvhost_commands.specs.declared.job.Way.TheVariants.{Trace, TraceJson, Tell, TellJson, Draw, Schedule}
-use Rattle.drvhost_commands.specs.CommandLine.{Names, NamesJob, program, usage}
+use Rattle.cli.specs.declared.job.Form.{Form}
+use Rattle.cli.specs.declared.job.Form.TheVariants.{Lines, Json}
+use Rattle.cli.specs.declared.job.Job.{Job}
+use Rattle.cli.specs.declared.job.Job.TheVariants.{Page as OfPage, OnPaths, Log, Test, Rewrite, Apply, OnSet, OnRun, Host, Keep}
+use Rattle.cli.specs.declared.job.Page.{Page}
+use Rattle.cli.specs.declared.job.Page.TheVariants.{Rule, LockOrder, Version}
+use Rattle.cli.specs.declared.job.Task.{Task}
+use Rattle.cli.specs.declared.job.Task.TheVariants.{Mend, List as Listing, Hunt, HuntExactly, Find, FindExactly}
+use Rattle.cli.specs.declared.job.Judging.{Judging}
+use Rattle.cli.specs.declared.job.Judging.TheVariants.{Check, CheckJson, Explain, ExplainJson}
+use Rattle.cli.specs.declared.job.Testing.{Testing}
+use Rattle.cli.specs.declared.job.Way.{Way}
+use Rattle.cli.specs.declared.job.Way.TheVariants.{Trace, TraceJson, Tell, TellJson, Draw, Schedule}
+use Rattle.cli.specs.CommandLine.{Names, NamesJob, program, usage}
 use Rattle.drvhost_files.specs.Files.{Has, IsWritten}
 use Rattle.drvhost_files.specs.declared.find.Found.{Found}
 use Rattle.drvhost_files.specs.declared.sought.Sought.{Sought}

@@ -3,7 +3,7 @@
 ghost use Rattle.std.specs.Prelude.{◌≡◌};
 ghost use Rattle.drvhost_words.specs.Program.{settled, settled_judging, settled_way};
 
-use drvhost_commands::job::{Judging, Way};
+use cli::job::{Judging, Way};
 use drvhost_devices::coloring::Coloring;
 use drvhost_devices::surroundings::Surroundings;
 

@@ -13,7 +13,7 @@ use crate::returned::{close_both, keep_if_opened};
 use crate::unread::tell_which_unread;
 use answer_runs::host::Hosting;
 use answer_runs::keeping::{self, host_keeping};
-use drvhost_commands::job::Keeping;
+use cli::job::Keeping;
 use drvhost_devices::device::{Sink, Source};
 use drvhost_devices::verification::Verification;
 use drvhost_files::files::{Files, Later, Pending};

@@ -43,7 +43,7 @@ use answer_mends::mend::{self, mend};
 use answer_runs::trace::trace;
 use answer_scenarios::schedule::schedule;
 use answer_views::draw::{Drawing, draw};
-use drvhost_commands::job::{
+use cli::job::{
     FileNames, Job, JobFault, Judged, Judging, Page, Task, Testing, Way, refuse_unknown_words,
     refuse_words,
 };

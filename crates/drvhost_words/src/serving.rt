@@ -14,7 +14,7 @@ ghost use Rattle.drvhost_words.specs.Unread.{IsNamedUnread, IsOneOf, SaysAround}
 use crate::returned::close_both;
 use crate::unread::tell_which_unread;
 use answer_runs::host::{Hosting, host};
-use drvhost_commands::job::{Form, Serving, Workers};
+use cli::job::{Form, Serving, Workers};
 use drvhost_devices::device::{Sink, Source};
 use drvhost_devices::verification::Verification;
 use drvhost_files::files::{Files, Later};

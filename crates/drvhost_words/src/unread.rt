@@ -4,7 +4,7 @@ ghost use Rattle.std.specs.Prelude.{◌≡◌, ◌+◌};
 ghost use Rattle.drvhost_devices.specs.Device.{CanCount};
 ghost use Rattle.drvhost_words.specs.Unread.{IsOneOf, SaysUnread};
 
-use drvhost_commands::job::FileNames;
+use cli::job::FileNames;
 use drvhost_devices::device::{Sink, Source};
 use drvhost_devices::unopened::tell_unread;
 

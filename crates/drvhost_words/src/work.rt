@@ -1,6 +1,6 @@
 //! What is done with the set of a file.
 
-use drvhost_commands::job::{Judging, Task};
+use cli::job::{Judging, Task};
 
 /// What is done with the set of a file.
 #[derive(Clone, Copy)]

@@ -1,4 +1,0 @@
-pub mod Given
-pub mod Matched
-pub mod Program
-pub mod Table

@@ -1,2 +1,0 @@
-pub mod Choices
-pub mod CommandLine
