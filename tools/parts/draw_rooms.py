@@ -25,7 +25,7 @@ ROOMS = [
     ('hunt', 'runs that end amiss', ('hunt_',)),
     ('mend', 'edits of a refused text', ('mend_',)),
     ('scenario', 'what a run is to show', ('scenario_',)),
-    ('drvhost', 'the program', ('report', 'answer', 'drvhost')),
+    ('drvhost', 'the program', ('report', 'answer', 'cli', 'drvhost')),
     ('pafteis', 'the library for C', ('pafteis',)),
     ('tests', 'tests, an example', ('tests_', 'example_')),
 ]

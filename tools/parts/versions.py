@@ -20,7 +20,7 @@ NUMBER = "%d%03d%03d" % tuple(map(int, VERSION.split(".")))
 
 # Where it stands besides: what comes before it, the version or its number, and what comes behind.
 COPIES = (
-    ("crates/drvhost_arguments/src/program.rt", 'VERSION: &str = "', VERSION, '"'),
+    ("crates/cli/src/program.rt", 'VERSION: &str = "', VERSION, '"'),
     ("crates/drvhost_devices/specs/Answer.antt", 'codes "drvhost ', VERSION, '\\n"'),
     ("crates/answer_explain/src/version.rt", 'b"drvhost ', VERSION, '\\n"'),
     ("crates/pafteis/src/version.rt", "VERSION_NUMBER: u32 = ", f"{int(NUMBER):_}", ";"),
