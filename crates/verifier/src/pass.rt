@@ -18,6 +18,13 @@ use model::set::Routine;
 use std::alloc::{AllocError, Global};
 use std::marker::Model;
 
+/// Where a pass begins: in the state that its routine is entered in, with a table of any other pass.
+#[derive(Drop)]
+pub struct Start {
+    pub entry: Abs,
+    pub table: Table,
+}
+
 /// A pass over a routine of a driver of a set.
 #[derive(Drop)]
 pub struct Pass<'a> {
@@ -61,23 +68,23 @@ impl<'a> Pass<'a> {
     ghost use Rattle.model.specs.Typable.{ClosesAlike, ClosesUnlike};
     ghost use Rattle.verifier.specs.Pass.{IsPassed, progress};
 
-    /// A pass at the start of a routine that is entered in a state, with a table of any other.
+    /// A pass at the start of a routine.
     pub fn begin(
         alloc: Global,
         set: &'a DriverSet,
         driver: u8,
         number: u8,
         routine: &'a Routine,
-        entry: Abs,
-        mut table: Table,
+        start: Start,
     ) -> Result<Pass<'a>, AllocError>
         requires some { length routine.now.code ≢ 0 }
         requires short { length routine.now.code ≤ MAX_INSTRUCTIONS }
-        requires entered { entry_state (member set.now driver number routine.now) ≡ Some entry }
+        requires entered { entry_state (member set.now driver number routine.now) ≡ Some start.entry }
         ensures { IfOk result
             (λ pass. pass ≡ progress (member set.now driver number routine.now) 0) }
     {
         let code = routine.code.as_slice();
+        let Start { entry, mut table } = start;
         let places = survey(alloc, code)?;
         table.open(code.len() + 1)?;
         let sums = vec![in alloc; 0; code.len() + 1]?;

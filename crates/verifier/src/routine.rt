@@ -14,7 +14,7 @@ ghost use Rattle.verifier.specs.Verdict.{IsRefusalOfRoutine};
 use crate::loops::survey;
 use crate::malformed::is_malformed;
 use crate::named::cancels_for;
-use crate::pass::Pass;
+use crate::pass::{Pass, Start};
 use crate::table::Table;
 use absstate::{Abs, Rule, entry_state};
 use driver_set::DriverSet;
@@ -76,7 +76,8 @@ pub(crate) fn check_over(
     let Some(entry) = entry(set, driver, number, routine) else {
         return Err(refusal_at_entry(alloc, set, driver, number, routine));
     };
-    let Ok(mut pass) = Pass::begin(alloc, set, driver, number, routine, entry, table) else {
+    let start = Start { entry, table };
+    let Ok(mut pass) = Pass::begin(alloc, set, driver, number, routine, start) else {
         return Err(at_start(Rule::Memory));
     };
     for at in 0..code.len() {
