@@ -7,7 +7,7 @@ from wrong_alone import FUNCTION
 TYPE = re.compile(r'^(?:pub(?:\([a-z ]+\))? )?(?:struct|enum) (\w+)', re.M)
 IMPL = re.compile(r'^impl(?:<.*?>)? (?:(.+?) for )?(.+?) \{', re.M)
 CYCLE = re.compile(r'#\[cycle\((\w+)\)\]\s*(?:#\[[^\]]*\]\s*)*$')
-UNKNOWN = re.compile(r'^(\S+)/Proof\.antt: error: .* has no function', re.M)
+UNKNOWN = re.compile(r'^(.+)/Proof\.antt: error: .* (?:has no function|is in a cycle of calls)', re.M)
 CITED = r'Rattle\.%s\.proofs\.([A-Z]\w*)'
 HOLE = ('use Rattle.{crate}.proofs.{path}.{{statement}}\n\n'
         'pub {name}_spec : {{M : Type 1}} → statement M\n{name}_spec = ?\n')
@@ -43,13 +43,18 @@ def bare(name):
     """A type's or a trait's name without its parameters."""
     return re.sub(r'<.*>', '', name).strip('[]&')
 
+def with_types(trait):
+    """A trait's name with the types that it is given, but for those that are any."""
+    given = [it.strip() for it in re.sub(r'^[^<]*<?|>$', '', trait).split(',')]
+    return bare(trait) + ''.join(bare(it) for it in given if not re.fullmatch(r"[A-Z]?|'\w+", it))
+
 def owner_at(text, place, homes, module):
     """In which module the function at a place of a text is proved, and of which type."""
     found = [it for it in IMPL.finditer(text) if it.start() < place]
     if not found or re.search(r'^\}', text[found[-1].end():place], re.M):
         return None
     trait, owner = found[-1][1], bare(found[-1][2])
-    return homes.get(owner, module) + [owner + bare(trait or '')]
+    return homes.get(owner, module) + [owner + with_types(trait or '')]
 
 def proofs_of(crate, files):
     """The places of the proofs of a crate's functions, each with a hole."""
@@ -97,13 +102,18 @@ def write(folder, files):
         if not os.path.isfile(path) or open(path, encoding='utf-8').read() != text:
             open(path, 'w', encoding='utf-8').write(text)
 
+def lines_of(path):
+    """The lines of a file, if there is one."""
+    return open(path, encoding='utf-8').read().splitlines() if os.path.isfile(path) else []
+
 class Granted:
     """A crate of a tree, what it stands on, and a folder for the sources with holes."""
 
     def __init__(self, top, kit, crate, folder):
         self.top, self.kit, self.crate, self.folder = top, kit, crate, folder
-        self.crates, self.unknown = graph(top), set()
-        self.below = below(crate, self.crates)
+        self.crates, self.below = graph(top), below(crate, graph(top))
+        self.noted = os.path.join(folder, 'unknown')
+        self.unknown = set(lines_of(self.noted))
 
     def place(self, name):
         return os.path.join(self.folder, 'sources', name)
@@ -127,24 +137,33 @@ class Granted:
 
     def words(self, more):
         """The command that checks the crate."""
-        rlibs = os.path.join(self.kit, 'rlibs')
         main = os.path.join(self.top, 'crates', self.crate, 'src/main.rt')
         root = 'src/main.rt' if os.path.isfile(main) else 'src/lib.rt'
         words = [os.path.join(self.kit, 'bin/rattle'), 'check', '--crate-name', self.crate, root]
         for name in dict.fromkeys([*self.below, 'std']):
-            words += self.library(name, rlibs)
-        words += ['-L', 'dependency=' + rlibs, '--allow-holes']
+            words += self.library(name)
+        for rlibs in self.built():
+            words += ['-L', 'dependency=' + rlibs]
+        words += ['--allow-holes']
         words += ['--antt-project', os.path.join(self.kit, 'rattle/logic/antt-project.json')]
         words += ['--logic-built', os.path.join(self.kit, 'logic_built')]
         return words + ['--incremental', os.path.join(self.folder, 'kept', self.crate), *more]
 
-    def library(self, name, rlibs):
-        """The words for a library: by its source, or one of the kit's as it was built."""
-        if name in self.crates:
-            used = ','.join(dict.fromkeys([*self.crates[name], 'std']))
-            return ['--lib', '%s:%s=%s/src/lib.rt' % (name, used, self.place(name))]
-        built = os.path.join(rlibs, name + '.rlib')
-        return ['--extern', '%s=%s' % (name, built)] if os.path.isdir(built) else []
+    def built(self):
+        """The folders with libraries that are built: the kit's, and that of `GRANTED_RLIBS`."""
+        own = os.environ.get('GRANTED_RLIBS')
+        return [os.path.join(self.kit, 'rlibs'), *([own] if own else [])]
+
+    def library(self, name):
+        """The words for a library: as it was built, or by its source."""
+        for folder in self.built():
+            built = os.path.join(folder, name + '.rlib')
+            if os.path.isdir(built):
+                return ['--extern', '%s=%s' % (name, built)]
+        if name not in self.crates:
+            return []
+        used = ','.join(dict.fromkeys([*self.crates[name], 'std']))
+        return ['--lib', '%s:%s=%s/src/lib.rt' % (name, used, self.place(name))]
 
     def check(self, more):
         """What a check says; again without the proofs of what it knows by another name."""
@@ -157,6 +176,8 @@ class Granted:
             if not unknown:
                 break
             self.unknown |= unknown
+            with open(self.noted, 'w', encoding='utf-8') as file:
+                file.writelines('%s\n' % name for name in sorted(self.unknown))
         return done
 
 def own_lines(crate, text):
