@@ -2,7 +2,7 @@
 """tools/try colors [PROGRAM]: whether the program (crates/drvhost/out/drvhost, if none is named) paints what it should. `explain` of
 each wrong driver of the gallery and `tell` of its schedule, and `explain` of the folder examples, are each asked for with
 `--color always`: what goes out is the plain answer with its lines painted, by the forms as they are said here, and the exit
-status is the same. At a terminal an answer is painted, but for `NO_COLOR` and `--color never`; in a pipe it never is by itself.
+status is the same. At a terminal an answer is painted, but for `NO_COLOR`, `TERM=dumb` and `--color never`; in a pipe it never is by itself.
 It prints each case that is answered otherwise; the last line counts."""
 import os, pty, subprocess, sys
 
@@ -79,12 +79,14 @@ def faults(program, words):
 
 def terminal_faults(program, words):
     plain, always = (answer(program, [*words, '--color', it]).stdout for it in ('never', 'always'))
-    env = {'NO_COLOR': ''}
-    none = {'NO_COLOR': '1'}
+    env = {'NO_COLOR': '', 'TERM': 'xterm'}
+    none = {'NO_COLOR': '1', 'TERM': 'xterm'}
+    dumb = {'NO_COLOR': '', 'TERM': 'dumb'}
     for flags, more, wanted in ([], env, always), (['--color', 'never'], env, plain), \
-            ([], none, plain), (['--color', 'always'], none, always):
+            ([], none, plain), (['--color', 'always'], none, always), ([], dumb, plain), \
+            (['--color', 'always'], dumb, always):
         if at_terminal(program, [*words, *flags], **more) != wanted:
-            yield 'at a terminal with %s and NO_COLOR=%s' % (flags, more['NO_COLOR'])
+            yield 'at a terminal with %s and %s' % (flags, more)
 
 def main():
     built = os.path.join(TOP, 'crates/drvhost/out/drvhost')

@@ -57,11 +57,25 @@ fn processors(rt: &impl Threads) -> usize {
     }
 }
 
-/// Whether `NO_COLOR` is set to anything but an empty text.
+/// Whether the environment asks for no colour: `NO_COLOR` is set to anything but an empty text, or
+/// `TERM` says that the terminal has none.
 fn is_colorless(rt: &HostRuntime) -> bool {
+    is_set(rt) || is_dumb(rt)
+}
+
+/// Whether `NO_COLOR` is set to anything but an empty text.
+fn is_set(rt: &HostRuntime) -> bool {
     match env::var(rt, "NO_COLOR") {
         Ok(text) => !text.is_empty(),
         Err(VarError::NotPresent) => false,
         Err(_other) => true,
+    }
+}
+
+/// Whether `TERM` is `dumb`.
+fn is_dumb(rt: &HostRuntime) -> bool {
+    match env::var(rt, "TERM") {
+        Ok(text) => text.as_str() == "dumb",
+        Err(_other) => false,
     }
 }
