@@ -2,3 +2,5 @@ pub mod Lines
 pub mod Naming
 pub mod Checking
 pub mod Delivering
+pub mod AsText
+pub mod AsJson

@@ -92,7 +92,11 @@ impl Form for Json {
 }
 
 /// A fault of the file of a name, told in JSON.
-fn told_fault(alloc: Global, name: &str, fault: InputFault) -> Result<Told, AllocError>
+///
+/// # Errors
+///
+/// When memory runs out.
+pub fn told_fault(alloc: Global, name: &str, fault: InputFault) -> Result<Told, AllocError>
     ensures { IfOk result (λ answer. answer ≡ fault_answer name.now fault) }
 {
     let line = line_of(alloc, &FileFault { file: name, fault })?;
@@ -100,7 +104,11 @@ fn told_fault(alloc: Global, name: &str, fault: InputFault) -> Result<Told, Allo
 }
 
 /// The line of a value.
-fn line_of<T: ToJson>(alloc: Global, value: &T) -> Result<Vec<u8>, AllocError>
+///
+/// # Errors
+///
+/// When memory runs out.
+pub fn line_of<T: ToJson>(alloc: Global, value: &T) -> Result<Vec<u8>, AllocError>
     ensures { IfOk result (λ line. line.items ≡ json_line (T.json value.now)) }
 {
     let mut lines = JsonLines::new(alloc);

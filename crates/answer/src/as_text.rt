@@ -99,14 +99,14 @@ impl Form for Text {
 }
 
 /// An input is faulty, and a line tells it.
-fn faulty(alloc: Global, line: Vec<u8>) -> Told
+pub fn faulty(alloc: Global, line: Vec<u8>) -> Told
     ensures { result ≡ faulty line.items }
 {
     Told::of(2, Vec::new(alloc), line)
 }
 
 /// A job ended so, with a text.
-pub(crate) fn ended(alloc: Global, end: End, text: Vec<u8>) -> Told
+pub fn ended(alloc: Global, end: End, text: Vec<u8>) -> Told
     ensures { result ≡ ended end text.items }
 {
     Told::of(end.status(), text, Vec::new(alloc))

@@ -7,7 +7,7 @@ ghost use Rattle.answer.specs.Check.{IsCheckJsonOf};
 
 use crate::as_json::Json;
 use crate::as_text::Text;
-use crate::content::Named;
+use crate::content::Given;
 use crate::deliver::answer_to;
 use crate::form::Form;
 use crate::judged::Judged;
@@ -21,18 +21,16 @@ use verifier::Accepted;
 pub struct Judgement;
 
 impl<F: Form> OnSet<F> for Judgement {
-    ghost right = { λ _ form name bytes set _. F.is_accepted form name bytes set };
+    ghost right = { λ _ form name bytes set. F.is_accepted form name bytes set };
 
     fn on(
         &self,
         form: &F,
         alloc: Global,
-        name: &str,
-        bytes: &[u8],
+        given: &Given<'_>,
         accepted: &Accepted,
-        _inputs: &[Named<'_>],
     ) -> Result<Told, AllocError> {
-        form.accepted(alloc, name, bytes, accepted)
+        form.accepted(alloc, given.name, given.bytes, accepted)
     }
 }
 

@@ -41,7 +41,7 @@ pub fn deliver<J: Job, S: Source, O: Sink, E: Sink>(
 }
 
 /// What a job answers for the file of a name that has these bytes.
-pub(crate) fn answer_to<J: Job>(
+pub fn answer_to<J: Job>(
     job: &J,
     alloc: Global,
     name: &str,
@@ -53,7 +53,7 @@ pub(crate) fn answer_to<J: Job>(
         name,
         content: Content::Whole(bytes),
     };
-    Ok(job.answer(alloc, &set, &[])?)
+    Ok(job.answer(alloc, &set)?)
 }
 
 /// Writes an answer, or tells that there was no memory for one. The answer is the exit status: 2

@@ -1,4 +1,4 @@
-//! Answers as values: a job is a function from what files held to an answer, judging is said once
+//! Answers as values: a job is a function from what a file held to an answer, judging is said once
 //! for all jobs on a set, and a form says what was found, as text or as JSON. `deliver` alone reads
 //! a file and writes an answer.
 #![tactic(auto)]

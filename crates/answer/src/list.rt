@@ -4,9 +4,11 @@ ghost use Rattle.std.specs.Prelude.{IfOk};
 ghost use Rattle.drvhost_devices.specs.Device.{Bytes};
 ghost use Rattle.drvhost_devices.specs.Ends.{IsListOf};
 
-use crate::as_text::ended;
+use crate::as_text::{Text, ended};
+use crate::content::Given;
 use crate::deliver::answer_to;
-use crate::judged::{OnAnySet, Unjudged};
+use crate::judged::Unjudged;
+use crate::set::OnAnySet;
 use asm_line::listing;
 use drvhost_devices::fault::End;
 use drvhost_devices::told::Told;
@@ -17,12 +19,18 @@ use std::alloc::{AllocError, Global};
 #[derive(Clone, Copy)]
 pub struct Listing;
 
-impl OnAnySet for Listing {
+impl OnAnySet<Text> for Listing {
     ghost use Rattle.drvhost_devices.specs.Answer.{IsListing};
 
-    ghost right = { λ _. IsListing };
+    ghost right = { λ _ _ _ _. IsListing };
 
-    fn on(&self, alloc: Global, set: &DriverSet) -> Result<Told, AllocError> {
+    fn on(
+        &self,
+        _form: &Text,
+        alloc: Global,
+        _given: &Given<'_>,
+        set: &DriverSet,
+    ) -> Result<Told, AllocError> {
         let text = listing(alloc, set)?;
         Ok(ended(alloc, End::Complete, text.into_bytes()))
     }
@@ -36,5 +44,9 @@ impl OnAnySet for Listing {
 pub fn list(alloc: Global, bytes: &[u8]) -> Result<Told, AllocError>
     ensures { IfOk result (IsListOf (Bytes bytes.now)) }
 {
-    Ok(answer_to(&Unjudged { job: Listing }, alloc, "", bytes)?)
+    let unjudged = Unjudged {
+        job: Listing,
+        form: Text,
+    };
+    Ok(answer_to(&unjudged, alloc, "", bytes)?)
 }

@@ -1,2 +1,4 @@
 pub mod Find
 pub mod Hunt
+pub mod Json
+pub mod Nesting

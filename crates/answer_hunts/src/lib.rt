@@ -2,5 +2,6 @@
 //! or as a scenario that fails by it at its last line, or the word that there is none.
 #![tactic(auto)]
 
+mod as_json;
 pub mod find;
 pub mod hunt;

@@ -13,23 +13,23 @@ use Rattle.model.specs.Set.{Set}
 use Rattle.model.specs.Typable.{IsFirstFault}
 use Rattle.report.specs.Verdict.{refusal_line}
 use Rattle.answer_mends.specs.declared.apply.Asked.{Asked}
-use Rattle.answer_mends.specs.declared.judged_offers.Applied.{Applied}
-use Rattle.answer_mends.specs.Apply.{IsAppliedTo, IsApply, IsApplyOf, IsApplyWith, LeavesFor, Shows, Takes, TakesMade, applied_of, end_with, last_line, written_of}
+use Rattle.answer_mends.specs.declared.apply.Applied.{Applied}
+use Rattle.answer_mends.specs.declared.judged_offers.Offer.{Offer}
+use Rattle.answer_mends.specs.Apply.{IsAppliedTo, IsApply, IsApplyOf, IsApplyWith, LeavesFor, Shows, Takes, TakesMade, applied_of, end_with, last_line, wanted_of, written_of}
 use Rattle.answer_mends.specs.Mend.{AreOffers, told}
 
 -- what is told of a refused set, of whose offers one is applied, or none
 pub applied_told : (asked : Asked) (image : Bool) (text : List ℕ) (set : Set) (refusal : Refusal)
-    (count : ℕ) (whole : Bool) (offers : List ℕ) (wanted applied : Option Applied) (end : End)
-    (answer output : List ℕ) → IsFirstFault set refusal
-    → AreOffers (Some asked.wanted) refusal text count whole offers wanted
-    → applied_of image wanted ≡ applied → end ≡ end_with applied
-    → answer ≡ refusal_line refusal ++ told asked.tries count offers
+    (offers : List Offer) (applied : Option Applied) (end : End) (answer output : List ℕ)
+    → IsFirstFault set refusal → AreOffers refusal text offers
+    → applied_of image (wanted_of asked.wanted offers) ≡ applied → end ≡ end_with applied
+    → answer ≡ refusal_line refusal ++ told asked.tries offers
     → output ≡ answer ++ last_line image applied
     → IsAppliedTo asked image text set (written_of applied) (ended end output)
-applied_told asked image text set refusal count whole offers wanted applied end answer output first
-    are is ends said all =
+applied_told asked image text set refusal offers applied end answer output first are is ends said
+    all =
     let line : List ℕ = refusal_line refusal in
-    let offered : List ℕ = told asked.tries count offers in
+    let offered : List ℕ = told asked.tries offers in
     let A : Option Applied → List ℕ = λ a. line ++ (offered ++ last_line image a) in
     let same : output ≡ A applied =
     all ∙ ap (λ t. t ++ last_line image applied) said
@@ -37,10 +37,7 @@ applied_told asked image text set refusal count whole offers wanted applied end 
     record {
       refusal = refusal;
       first = first;
-      count = count;
-      whole = whole;
       offers = offers;
-      wanted = wanted;
       are = are;
       writes = ap written_of (sym is);
       is = ap (λ e. ended e output) ends ∙ ap (λ t. ended (end_with applied) t) same

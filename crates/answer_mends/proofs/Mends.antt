@@ -1,82 +1,16 @@
--- Answers on the bytes of a file as answers on its source, and offers one behind another.
-use Rattle.std.proofs.Common.{◌≡◌, ℕ, suc, ◌+◌, ◌++◌, ◌||◌, ◌⊎◌, inl, inr, Bool, List, [], true, Option, Some, None, Result, Ok, Err, IfOk, IfSome, OnOk, ◌∙◌, append_assoc, refl, ap, sym, subst}
-use Rattle.std.specs.Prelude.{if◌then◌else◌}
-use Rattle.drvhost_devices.specs.declared.fault.Fault.{Fault}
-use Rattle.drvhost_devices.specs.declared.fault.Fault.TheVariants.{Read, Memory}
-use Rattle.drvhost_devices.specs.Answer.{Answer, FileSays, IsOfFile}
-use Rattle.drvhost_devices.specs.Device.{Bytes, Holds, Supply}
-use Rattle.drvhost_devices.specs.Ends.{IsOfSupply}
-use Rattle.drvhost_devices.specs.Fault.{Goes, ReadsSet}
-use Rattle.drvhost_devices.specs.declared.wanted.Wanted.{Wanted}
-use Rattle.drvhost_devices.proofs.Writing.{keeps_same}
+-- Offers, one behind another, and what they mend.
+use Rattle.std.proofs.Common.{◌≡◌, ℕ, ◌+◌, ◌++◌, ◌⊎◌, inl, inr, List, Option, Some, None, Result, Ok, Err, IfOk, IfSome, OnOk, ◌∙◌, append_assoc, ap, sym, subst}
+use Rattle.drvhost_devices.specs.Answer.{FileSays}
+use Rattle.drvhost_devices.specs.Device.{Bytes}
+use Rattle.drvhost_devices.specs.Fault.{ReadsSet}
 use Rattle.model.specs.declared.abs.Refusal.{Refusal}
 use Rattle.model.specs.declared.abs.Rule.TheVariants as Rule
 use Rattle.model.specs.Set.{Set}
 use Rattle.model.specs.Typable.{IsFirstFault, at_start}
-use Rattle.std.proofs.Math.Numerals.{suc-eq-add-one}
 use Rattle.std.specs.Prelude.{◌≢◌}
-use Rattle.text.specs.Cut.{lines_of}
-use Rattle.answer_mends.specs.declared.judged_offers.Applied.{Applied}
 use Rattle.answer_mends.specs.declared.judging.Extent.{Extent}
 use Rattle.answer_mends.specs.declared.judging.Extent.TheVariants.{Part}
-use Rattle.answer_mends.specs.declared.mend.Asked.{Asked}
-use Rattle.answer_mends.specs.Mend.{AreOffers, IsMend, IsLater, IsMendOf, IsOf, IsOffer, Makes, NamesOf, are_words, is_wanted, is_whole, offer_text}
-
--- nothing goes out where a read fails or memory runs out
-pub unread : (R : Answer → Type 0) (b : Option (List ℕ)) (fault : Fault)
-    → (fault ≡ Read) ⊎ (fault ≡ Memory) → Goes R b b [] [] (Err fault)
-unread R b fault (inl e) =
-    let P : Fault → Type 0 = λ f. Goes R b b [] [] (Err f) in subst P (sym e) (keeps_same b)
-unread R b fault (inr e) =
-    let P : Fault → Type 0 = λ f. Goes R b b [] [] (Err f) in subst P (sym e) (keeps_same b)
-
--- an answer on the bytes that a source has is one on the source
-pub on_source : (asked : Asked) (held : Supply) (bytes : List ℕ) → Holds held bytes
-    → (answer : Answer) → IsOfSupply (IsMend asked bytes) (Bytes bytes) answer
-    → IsMendOf asked held answer
-on_source asked held bytes holds answer (same, is, right) =
-    let P : List ℕ → Type 0 = λ b. IsOfFile (IsMend asked bytes) b answer in
-    (bytes, holds, subst P is right)
-
--- one offer more
-one_more : (wanted : Option Wanted) (refusal : Refusal) (text : List ℕ) (count : ℕ) (whole : Bool)
-    (written : List ℕ) (chosen : Option Applied) (words last : List ℕ) (offer : Applied)
-    → AreOffers wanted refusal text count whole written chosen
-    → IsOffer refusal text (count + 1) words last offer
-    → AreOffers wanted refusal text (count + 1) (whole || is_whole offer.extent) (written ++ last)
-    (if is_wanted wanted (count + 1) words then Some offer else chosen)
-one_more wanted refusal text count whole written chosen words last offer all is =
-    let picked : Option Applied =
-    if is_wanted wanted (count + 1) words then Some offer else chosen in
-    let P : ℕ → Type 0 =
-    λ n.
-    AreOffers wanted refusal text n (whole || is_whole offer.extent) (written ++ last) picked in
-    let next : P (suc count) =
-    (whole, written, chosen, words, last, offer, all, is, refl, refl, refl) in
-    subst P (suc-eq-add-one count) next
-
--- which is shown by its diff, behind words, and is the one that is wanted, or not
-pub shown_more : (wanted : Option Wanted) (refusal : Refusal) (text : List ℕ) (count : ℕ)
-    (whole : Bool) (written : List ℕ) (chosen : Option Applied) (extent : Extent)
-    (words diff made : List ℕ) (is : Bool)
-    → AreOffers wanted refusal text count whole written chosen
-    → are_words (lines_of words) ≡ true → Makes extent refusal text diff made
-    → is_wanted wanted (count + 1) words ≡ is
-    → AreOffers wanted refusal text (count + 1) (whole || is_whole extent)
-    (written ++ offer_text extent (count + 1) words diff)
-    (if is then Some (record { number = count + 1; extent = extent; made = made }) else chosen)
-shown_more wanted refusal text count whole written chosen extent words diff made is all worded makes
-    asked =
-    let offer : Applied = record { number = count + 1; extent = extent; made = made } in
-    let last : List ℕ = offer_text extent (count + 1) words diff in
-    let one : IsOffer refusal text (count + 1) words last offer =
-    record { numbered = refl; worded = worded; diff = diff; makes = makes; is = refl } in
-    let P : Bool → Type 0 =
-    λ b.
-    AreOffers wanted refusal text (count + 1) (whole || is_whole extent) (written ++ last)
-    (if b then Some offer else chosen) in
-    subst P asked
-    (one_more wanted refusal text count whole written chosen words last offer all one)
+use Rattle.answer_mends.specs.Mend.{IsLater, IsOf, NamesOf}
 
 -- what is so of the set that a text names is so of the text
 pub named_of : {E : Type 0} (refusal : Refusal) (made : List ℕ) (set : Set)

@@ -1,5 +1,5 @@
 -- What `mend` answers where it applies one of its offers, and what it writes then.
-use Rattle.std.specs.Prelude.{ℕ, ◌≡◌, ◌++◌, ◌⊎◌, Bool, true, false, List, Option, None, Some, Ok, Err, Result, codes, decimal}
+use Rattle.std.specs.Prelude.{ℕ, zero, suc, ◌≡◌, ◌+◌, ◌++◌, ◌⊎◌, Bool, true, false, if◌then◌else◌, List, [], ◌∷◌, Option, None, Some, Ok, Err, Result, codes, decimal, slice_get, string_bytes}
 use Rattle.std.specs.Io.KnownBytes.{Appends}
 use Rattle.drvhost_devices.specs.Answer.{Answer, FileSays, IsOfFile, ended, is_image}
 use Rattle.drvhost_devices.specs.declared.fault.End.{End}
@@ -7,6 +7,8 @@ use Rattle.drvhost_devices.specs.declared.fault.End.TheVariants.{Complete, Stopp
 use Rattle.drvhost_devices.specs.declared.fault.Fault.{Fault}
 use Rattle.drvhost_devices.specs.declared.fault.Fault.TheVariants.{Write}
 use Rattle.drvhost_devices.specs.Device.{Holds, Supply, TakesBeginning}
+use Rattle.drvhost_devices.specs.declared.wanted.Wanted.{Wanted}
+use Rattle.drvhost_devices.specs.declared.wanted.Wanted.TheVariants.{Sure, Number}
 use Rattle.model.specs.declared.abs.Refusal.{Refusal}
 use Rattle.model.specs.declared.abs.Rule.{Rule}
 use Rattle.model.specs.Set.{Set}
@@ -15,9 +17,10 @@ use Rattle.model.specs.Words.{rule_text}
 use Rattle.report.specs.Verdict.{refusal_line}
 use Rattle.answer_mends.specs.declared.judging.Extent.{Extent}
 use Rattle.answer_mends.specs.declared.judging.Extent.TheVariants.{Whole, Part}
-use Rattle.answer_mends.specs.declared.judged_offers.Applied.{Applied}
+use Rattle.answer_mends.specs.declared.judged_offers.Offer.{Offer}
+use Rattle.answer_mends.specs.declared.apply.Applied.{Applied}
 use Rattle.answer_mends.specs.declared.apply.Asked.{Asked}
-use Rattle.answer_mends.specs.Mend.{AreOffers, end_of, is_whole, nothing_told, text_of, told}
+use Rattle.answer_mends.specs.Mend.{AreOffers, end_of, is_sure, is_whole, nothing_told, text_of, told}
 
 -- what is told behind the offers: which one is applied, and of a part why the set that it makes is
 -- still refused
@@ -45,7 +48,28 @@ abbrev pub last_line : Bool → Option Applied → List ℕ
 last_line image None = unapplied_line image
 last_line image (Some applied) = applied_line applied.number applied.extent
 
--- the offer that is wanted is applied, but to no image
+-- the offer of a number, where the first has number 1
+abbrev pub taken : ℕ → Option Offer → Option Applied
+taken number None = None
+taken number (Some offer) =
+    Some (record { number = number; extent = offer.extent; made = offer.made })
+
+abbrev pub numbered : ℕ → List Offer → Option Applied
+numbered zero offers = None
+numbered (suc before) offers = taken (before + 1) (slice_get offers before)
+
+-- the first one, if its words say that it is sure
+abbrev pub first_sure : List Offer → Option Applied
+first_sure [] = None
+first_sure (offer ∷ offers) =
+    if is_sure (string_bytes offer.words) then taken 1 (Some offer) else None
+
+-- the one that is wanted
+abbrev pub wanted_of : Wanted → List Offer → Option Applied
+wanted_of Sure offers = first_sure offers
+wanted_of (Number number) offers = numbered number offers
+
+-- it is applied, but to no image
 abbrev pub applied_of : Bool → Option Applied → Option Applied
 applied_of true wanted = None
 applied_of false wanted = wanted
@@ -65,15 +89,12 @@ pub record IsAppliedTo (asked : Asked) (image : Bool) (text : List ℕ) (set : S
     (written : Option (List ℕ)) (answer : Answer) : Type 0 where
   pub refusal : Refusal
   pub first : IsFirstFault set refusal
-  pub count : ℕ
-  pub whole : Bool
-  pub offers : List ℕ
-  pub wanted : Option Applied
-  pub are : AreOffers (Some asked.wanted) refusal text count whole offers wanted
-  pub writes : written ≡ written_of (applied_of image wanted)
-  pub is : answer ≡ ended (end_with (applied_of image wanted))
+  pub offers : List Offer
+  pub are : AreOffers refusal text offers
+  pub writes : written ≡ written_of (applied_of image (wanted_of asked.wanted offers))
+  pub is : answer ≡ ended (end_with (applied_of image (wanted_of asked.wanted offers)))
       (refusal_line refusal
-      ++ (told asked.tries count offers ++ last_line image (applied_of image wanted)))
+      ++ (told asked.tries offers ++ last_line image (applied_of image (wanted_of asked.wanted offers))))
 
 -- what is right for a set that the bytes of a file name, where such a text is written, or none
 abbrev pub IsApply : Asked → List ℕ → Option (List ℕ) → Set → Answer → Type 0

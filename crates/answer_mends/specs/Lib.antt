@@ -1,3 +1,5 @@
 pub mod Fix
 pub mod Apply
+pub mod Json
 pub mod Mend
+pub mod Nesting

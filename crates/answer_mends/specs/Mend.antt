@@ -1,20 +1,18 @@
 -- What `mend` answers: offers of mends, each with a diff of the text that was checked.
-use Rattle.std.specs.Prelude.{ℕ, zero, suc, ◌≡◌, ◌+◌, ◌<◌, ◌++◌, ◌||◌, ◌&&◌, not, nat_eq, ◌⊎◌, Bool, true, false, if◌then◌else◌, List, [], ◌∷◌, Ok, Option, None, Some, codes, decimal}
-use Rattle.std.specs.List.{starts_with}
+use Rattle.std.specs.Prelude.{ℕ, ◌≡◌, ◌+◌, ◌<◌, ◌++◌, ◌&&◌, not, nat_eq, ◌⊎◌, All, Bool, true, false, List, [], ◌∷◌, Ok, Some, codes, decimal, string_bytes}
+use Rattle.std.specs.List.{list_any, starts_with}
 use Rattle.asm_line.specs.Listing.{listing}
 use Rattle.drvhost_devices.specs.Answer.{Answer, FileSays, IsOfFile, ended, is_image}
 use Rattle.drvhost_devices.specs.declared.fault.End.{End}
 use Rattle.drvhost_devices.specs.declared.fault.End.TheVariants.{Complete, Stopped}
 use Rattle.drvhost_devices.specs.Device.{Holds, Supply}
-use Rattle.drvhost_devices.specs.declared.wanted.Wanted.{Wanted}
-use Rattle.drvhost_devices.specs.declared.wanted.Wanted.TheVariants.{Sure, Number}
 use Rattle.mend_edits.specs.Diff.{made_by}
 use Rattle.model.specs.declared.abs.Refusal.{Refusal}
 use Rattle.model.specs.Set.{Set}
 use Rattle.model.specs.Typable.{IsFirstFault, IsTypable}
 use Rattle.report.specs.Verdict.{refusal_line}
 use Rattle.text.specs.Cut.{lines_of}
-use Rattle.answer_mends.specs.declared.judged_offers.Applied.{Applied}
+use Rattle.answer_mends.specs.declared.judged_offers.Offer.{Offer}
 use Rattle.answer_mends.specs.declared.judging.Extent.{Extent}
 use Rattle.answer_mends.specs.declared.judging.Extent.TheVariants.{Whole, Part}
 use Rattle.answer_mends.specs.declared.mend.Asked.{Asked}
@@ -64,49 +62,45 @@ offer_head extent number = codes "mend " ++ (decimal number ++ extent_text exten
 abbrev pub diff_shown : List ℕ → List ℕ
 diff_shown diff = codes "\n--- set\n+++ mended\n" ++ diff
 
-abbrev pub offer_text : Extent → ℕ → List ℕ → List ℕ → List ℕ
-offer_text extent number words diff = offer_head extent number ++ (words ++ diff_shown diff)
+abbrev pub offer_text : ℕ → Offer → List ℕ
+offer_text number offer =
+    offer_head offer.extent number
+    ++ (string_bytes offer.words ++ diff_shown (string_bytes offer.diff))
 
--- an offer as it is written: by its number, what it mends and what its diff makes
-pub record IsOffer (refusal : Refusal) (text : List ℕ) (number : ℕ) (words written : List ℕ)
-    (offer : Applied) : Type 0 where
-  pub numbered : offer.number ≡ number
-  pub worded : are_words (lines_of words) ≡ true
-  pub diff : List ℕ
-  pub makes : Makes offer.extent refusal text diff offer.made
-  pub is : written ≡ offer_text offer.extent number words diff
+-- offers, one behind another, the first of which has this number
+abbrev pub offers_text : ℕ → List Offer → List ℕ
+offers_text number [] = []
+offers_text number (offer ∷ offers) =
+    offer_text number offer ++ offers_text (number + 1) offers
 
--- the offer of a number is wanted, which has these words: of the first they say that it is sure
-abbrev pub is_wanted : Option Wanted → ℕ → List ℕ → Bool
-is_wanted None number words = false
-is_wanted (Some Sure) number words =
-    nat_eq number 1 && starts_with nat_eq words (codes "sure")
-is_wanted (Some (Number other)) number words = nat_eq number other
+-- an offer mends something by its diff, which its words can be told from
+abbrev pub IsOffer : Refusal → List ℕ → Offer → Type 0
+IsOffer refusal text offer =
+    (are_words (lines_of (string_bytes offer.words)) ≡ true)
+    × Makes offer.extent refusal text (string_bytes offer.diff) offer.made
 
--- so many offers, one behind another from number 1 on: whether one of them is of the whole, and
--- the one that is wanted, if it is among them
+abbrev pub AreOffers : Refusal → List ℕ → List Offer → Type 0
+AreOffers refusal text offers = All (IsOffer refusal text) offers
+
+-- whether one of them is of the whole
 abbrev pub is_whole : Extent → Bool
 is_whole Whole = true
 is_whole (Part left) = false
 
-abbrev pub AreOffers : Option Wanted → Refusal → List ℕ → ℕ → Bool → List ℕ → Option Applied
-    → Type 0
-AreOffers wanted refusal text zero whole written chosen =
-    (whole ≡ false) × (written ≡ []) × (chosen ≡ None)
-AreOffers wanted refusal text (suc count) whole written chosen =
-    (before : Bool) × (earlier : List ℕ) × (other : Option Applied)
-    × (words : List ℕ) × (last : List ℕ) × (offer : Applied)
-    × AreOffers wanted refusal text count before earlier other
-    × IsOffer refusal text (count + 1) words last offer
-    × (whole ≡ before || is_whole offer.extent) × (written ≡ earlier ++ last)
-    × (chosen ≡ (if is_wanted wanted (count + 1) words then Some offer else other))
+abbrev pub any_whole : List Offer → Bool
+any_whole offers = list_any (λ offer. is_whole offer.extent) offers
 
--- offers, or that there is none
+-- words on an offer say that it is sure
+abbrev pub is_sure : List ℕ → Bool
+is_sure words = starts_with nat_eq words (codes "sure")
+
+-- what is told of offers, or that there is none
 abbrev pub none_told : ℕ → List ℕ
 none_told tries = codes "no mend found in " ++ (decimal tries ++ codes " tries\n")
 
-abbrev pub told : ℕ → ℕ → List ℕ → List ℕ
-told tries count offers = if nat_eq count 0 then none_told tries else offers
+abbrev pub told : ℕ → List Offer → List ℕ
+told tries [] = none_told tries
+told tries (offer ∷ offers) = offers_text 1 (offer ∷ offers)
 
 -- the exit status is 0 where the whole is mended
 abbrev pub end_of : Bool → End
@@ -117,12 +111,9 @@ end_of false = Stopped
 pub record IsMended (asked : Asked) (text : List ℕ) (set : Set) (answer : Answer) : Type 0 where
   pub refusal : Refusal
   pub first : IsFirstFault set refusal
-  pub count : ℕ
-  pub whole : Bool
-  pub offers : List ℕ
-  pub chosen : Option Applied
-  pub are : AreOffers None refusal text count whole offers chosen
-  pub is : answer ≡ ended (end_of whole) (refusal_line refusal ++ told asked.tries count offers)
+  pub offers : List Offer
+  pub are : AreOffers refusal text offers
+  pub is : answer ≡ ended (end_of (any_whole offers)) (refusal_line refusal ++ told asked.tries offers)
 
 -- an accepted set has nothing to mend
 abbrev pub nothing_told : List ℕ

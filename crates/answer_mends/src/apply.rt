@@ -8,12 +8,13 @@ ghost use Rattle.drvhost_devices.specs.Ends.{Answers};
 ghost use Rattle.drvhost_devices.specs.Fault.{Goes, reads_failed, status_of, writes_failed};
 ghost use Rattle.drvhost_devices.specs.Ready.{CanAnswer};
 ghost use Rattle.answer_mends.specs.Apply.{IsApply, IsAppliedTo, IsApplyOf, LeavesFor, Shows};
-ghost use Rattle.answer_mends.specs.Apply.{Takes, TakesMade, applied_line, applied_of, left_text};
-ghost use Rattle.answer_mends.specs.Apply.{place_left, rule_left, unapplied_line};
+ghost use Rattle.answer_mends.specs.Apply.{Takes, TakesMade, applied_line, applied_of, first_sure};
+ghost use Rattle.answer_mends.specs.Apply.{left_text, numbered, place_left, rule_left};
+ghost use Rattle.answer_mends.specs.Apply.{unapplied_line, wanted_of};
 
-use crate::judged_offers::{Applied, Offered, offer};
+use crate::judged_offers::{Offer, is_sure, make_offers};
 use crate::judging::{Extent, verdict};
-use crate::reply::{Reply, end_of, nothing, text_of, told};
+use crate::reply::{end_of, nothing, text_of, told};
 use drvhost_devices::device::{Sink, Source};
 use drvhost_devices::fault::{End, Fault, finish, no_memory};
 use drvhost_devices::reading::{begins_image, set_of};
@@ -35,11 +36,12 @@ pub struct Asked {
     pub wanted: Wanted,
 }
 
-/// Writes mends of the text of a driver set as [`mend`](crate::mend::mend) does, and which of them
-/// is applied; and then the text that this one makes to the target. The answer is the exit status:
-/// 0 where the set is accepted already or the whole text is mended so, 1 where a part of it is or
-/// nothing is applied, as with an image, and 2 and 3 as of `mend`. Nothing is done with the target
-/// before its whole text stands in memory and the diff was written.
+/// Writes mends of the text of a driver set as [`MendsText`](crate::mend::MendsText) tells them, and
+/// which of them is applied; and then the text that this one makes to the target. The answer is the
+/// exit status: 0 where the set is accepted already or the whole text is mended so, 1 where a part
+/// of it is or nothing is applied, as with an image; 2 where the set's text or its image is faulty
+/// or a read or a write failed, 3 where memory ran out. Nothing is done with the target before its
+/// whole text stands in memory and the diff was written.
 pub fn apply<S: Source, O: Sink, W: Sink, E: Sink>(
     alloc: Global,
     asked: Asked,
@@ -101,6 +103,13 @@ fn apply_source<S: Source, O: Sink, W: Sink>(
     put(&applying, out, target)
 }
 
+/// What is answered, and how the job ends.
+#[derive(Drop)]
+struct Reply {
+    end: End,
+    text: Vec<u8>,
+}
+
 /// What is answered, and the text that is written then, if one is.
 #[derive(Drop)]
 struct Applying {
@@ -141,7 +150,10 @@ fn applying_on(
 {
     match verify(alloc, set) {
         Ok(_accepted) => Ok(Applying {
-            reply: nothing(alloc)?,
+            reply: Reply {
+                end: End::Complete,
+                text: nothing(alloc)?,
+            },
             made: None,
         }),
         Err((set, refusal)) => {
@@ -166,11 +178,10 @@ fn applying_on_refused(
         (ended applying.reply.end applying.reply.text.items)) }
 {
     verdict(refusal)?;
-    let offered = offer(alloc, asked.tries, Some(asked.wanted), text, set, refusal)?;
-    let mut answer = told(alloc, asked.tries, refusal, &offered)?;
-    let Offered { applied, .. } = offered;
+    let offers = make_offers(alloc, asked.tries, text, set, refusal)?;
+    let mut answer = told(alloc, asked.tries, refusal, offers.as_slice())?;
     let image = begins_image(bytes);
-    match applied_of(image, applied) {
+    match applied_of(image, asked.wanted, offers) {
         Some(applied) => {
             add_applied(alloc, &mut answer, applied.number, applied.extent)?;
             Ok(Applying {
@@ -194,11 +205,62 @@ fn applying_on_refused(
     }
 }
 
+/// An offer that is applied, by its number.
+#[derive(Drop)]
+struct Applied {
+    number: u64,
+    extent: Extent,
+    /// What its diff makes of the text.
+    made: Items<u8>,
+}
+
 /// The offer that is applied: the one that is wanted, but none to an image.
-fn applied_of(image: bool, wanted: Option<Applied>) -> Option<Applied>
-    ensures { result ≡ applied_of image wanted }
+fn applied_of(image: bool, wanted: Wanted, offers: Vec<Offer>) -> Option<Applied>
+    ensures { result ≡ applied_of image (wanted_of wanted offers.items) }
 {
-    if image { None } else { wanted }
+    if image {
+        None
+    } else {
+        wanted_of(wanted, offers)
+    }
+}
+
+/// The offer that is wanted, if it is there.
+fn wanted_of(wanted: Wanted, offers: Vec<Offer>) -> Option<Applied>
+    ensures { result ≡ wanted_of wanted offers.items }
+{
+    match wanted {
+        Wanted::Sure => first_sure(offers),
+        Wanted::Number(number) => numbered(number, offers),
+    }
+}
+
+/// The first offer, if it is sure.
+fn first_sure(offers: Vec<Offer>) -> Option<Applied>
+    ensures { result ≡ first_sure offers.items }
+{
+    let first = offers.first()?;
+    if is_sure(first.words.as_bytes()) {
+        return numbered(1, offers);
+    }
+    None
+}
+
+/// The offer of a number.
+fn numbered(number: u64, offers: Vec<Offer>) -> Option<Applied>
+    ensures { result ≡ numbered number offers.items }
+{
+    let place = number.checked_sub(1)? as usize;
+    let mut offers = offers;
+    if place >= offers.len() {
+        return None;
+    }
+    let Offer { extent, made, .. } = offers.swap_remove(place);
+    Some(Applied {
+        number,
+        extent,
+        made,
+    })
 }
 
 /// Adds which offer is applied, and of a part why the set is still refused.

@@ -1,15 +1,14 @@
 //! Offers, each of which was judged by its diff.
 
-ghost use Rattle.std.specs.Prelude.{◌≡◌, ◌++◌, ◌||◌, IfOk, OnOk};
+ghost use Rattle.std.specs.Prelude.{◌≡◌, ◌++◌, IfOk, OnOk};
 ghost use Rattle.text.specs.Cut.{lines_of};
-ghost use Rattle.answer_mends.specs.Mend.{AreOffers, are_words, diff_shown, extent_text, is_wanted};
-ghost use Rattle.answer_mends.specs.Mend.{is_whole, offer_head, offer_text};
+ghost use Rattle.answer_mends.specs.Mend.{AreOffers, any_whole, are_words, diff_shown, extent_text};
+ghost use Rattle.answer_mends.specs.Mend.{is_sure, offer_head, offer_text, offers_text};
 
 use crate::choosing::choices;
-use crate::judging::{Extent, judge};
+use crate::judging::{Extent, Judged, judge};
 use crate::proposing::{Proposal, propose};
 use driver_set::DriverSet;
-use drvhost_devices::wanted::Wanted;
 use mend_offers::offers::find_offers;
 use model::abs::Refusal;
 use model::items::Items;
@@ -17,131 +16,115 @@ use std::alloc::{AllocError, Global};
 use text::cut::Lines;
 
 /// How many offers are made at most.
-const MOST: u64 = 3;
+const MOST: usize = 3;
 
-/// An offer that is to be applied, by its number.
+/// An offer: how much it mends, words on it, the sentences among them that tell its changes, and its
+/// diff.
 #[derive(Drop)]
-pub(crate) struct Applied {
-    pub number: u64,
+pub(crate) struct Offer {
     pub extent: Extent,
-    /// What its diff makes of the text.
+    pub words: String,
+    pub sentences: Vec<String>,
+    pub diff: String,
+    /// What the diff makes of the text.
     pub made: Items<u8>,
 }
 
-/// Offers, written one behind another.
-#[derive(Drop)]
-pub(crate) struct Offered {
-    pub text: Vec<u8>,
-    /// How many they are.
-    pub count: u64,
-    /// Whether one of them is of the whole.
-    pub whole: bool,
-    /// The one that is wanted, if it is there.
-    pub applied: Option<Applied>,
-}
-
 /// Offers mends of a text that names a refused set.
-pub(crate) fn offer(
+pub(crate) fn make_offers(
     alloc: Global,
     tries: u64,
-    wanted: Option<Wanted>,
     text: &[u8],
     set: &DriverSet,
     refusal: &Refusal,
-) -> Result<Offered, AllocError>
-    ensures { IfOk result (λ offered. AreOffers wanted refusal.now text.now offered.count
-        offered.whole offered.text.items offered.applied) }
+) -> Result<Vec<Offer>, AllocError>
+    ensures { IfOk result (λ offers. AreOffers refusal.now text.now offers.items) }
 {
     let found = find_offers(alloc, set, tries)?;
-    let mut offered = Offered {
-        text: Vec::new(alloc),
-        count: 0,
-        whole: false,
-        applied: None,
-    };
+    let mut offers = Vec::new(alloc);
     let all = choices(alloc, &found)?;
     for choice in all {
-        if offered.count < MOST {
+        if offers.len() < MOST {
             if let Some(proposal) = propose(alloc, text, set, &found, choice)? {
-                add_judged(alloc, &mut offered, text, refusal, &proposal, wanted)?;
+                add_judged(alloc, &mut offers, text, refusal, proposal)?;
             }
         }
     }
-    Ok(offered)
+    Ok(offers)
 }
 
-/// Adds a diff with words on it, if it mends something.
+/// Adds what is proposed, if it mends something.
 fn add_judged(
     alloc: Global,
-    offered: &mut Offered,
+    offers: &mut Vec<Offer>,
     text: &[u8],
     refusal: &Refusal,
-    proposal: &Proposal,
-    wanted: Option<Wanted>,
+    proposal: Proposal,
 ) -> Result<(), AllocError>
-    requires { AreOffers wanted refusal.now text.now offered.old.count offered.old.whole
-        offered.old.text.items offered.old.applied }
-    ensures { OnOk result (AreOffers wanted refusal.now text.now offered.new.count
-        offered.new.whole offered.new.text.items offered.new.applied) }
+    requires { AreOffers refusal.now text.now offers.old.items }
+    ensures { OnOk result (AreOffers refusal.now text.now offers.new.items) }
 {
-    if offered.count >= MOST {
+    let Proposal {
+        words,
+        sentences,
+        diff,
+    } = proposal;
+    if !are_words(words.as_bytes()) {
         return Ok(());
     }
-    let (words, diff) = (proposal.words.as_bytes(), proposal.diff.as_bytes());
-    let Some(judged) = judge(alloc, text, refusal, diff)? else {
-        return Ok(());
-    };
-    if !are_words(words) {
-        return Ok(());
+    if let Some(judged) = judge(alloc, text, refusal, diff.as_bytes())? {
+        let Judged { extent, made } = judged;
+        offers.push(Offer {
+            extent,
+            words,
+            sentences,
+            diff,
+            made,
+        })?;
     }
-    let number = offered.count + 1;
-    write_offer(alloc, &mut offered.text, judged.extent, number, words, diff)?;
-    offered.count = number;
-    offered.whole = either(offered.whole, judged.extent);
-    if !is_wanted(wanted, number, words) {
-        return Ok(());
-    }
-    offered.applied = Some(Applied {
-        number,
-        extent: judged.extent,
-        made: judged.made,
-    });
     Ok(())
 }
 
-/// Whether the offer of a number is the one that is wanted, by its words.
-fn is_wanted(wanted: Option<Wanted>, number: u64, words: &[u8]) -> bool
-    ensures { result ≡ is_wanted wanted number words.now }
+/// Whether one of some offers is of the whole.
+pub(crate) fn any_whole(offers: &[Offer]) -> bool
+    ensures { result ≡ any_whole offers.now }
 {
-    match wanted {
-        Some(Wanted::Sure) => number == 1 && words.starts_with(b"sure"),
-        Some(Wanted::Number(other)) => number == other,
-        None => false,
-    }
+    offers.iter().any(|offer| offer.extent.is_whole())
 }
 
-/// Whether an offer is of the whole, or one of those before it.
-fn either(whole: bool, extent: Extent) -> bool
-    ensures { result ≡ whole || is_whole extent }
+/// Whether the words on an offer say that it is sure.
+pub(crate) fn is_sure(words: &[u8]) -> bool
+    ensures { result ≡ is_sure words.now }
 {
-    whole || extent.is_whole()
+    words.starts_with(b"sure")
 }
 
-/// Adds an offer.
-fn write_offer(
+/// Adds offers, one behind another.
+pub(crate) fn add_offers(
     alloc: Global,
     text: &mut Vec<u8>,
-    extent: Extent,
-    number: u64,
-    words: &[u8],
-    diff: &[u8],
+    offers: &[Offer],
 ) -> Result<(), AllocError>
-    ensures { OnOk result (text.new.items
-        ≡ text.old.items ++ offer_text extent number words.now diff.now) }
+    ensures { OnOk result (text.new.items ≡ text.old.items ++ offers_text 1 offers.now) }
 {
-    add_head(alloc, text, extent, number)?;
-    text.extend_from_slice(words)?;
-    add_diff(text, diff)
+    for (place, offer) in offers.iter().enumerate() {
+        add_offer(alloc, text, place as u64 + 1, offer)?;
+    }
+    Ok(())
+}
+
+/// Adds the offer of a number.
+fn add_offer(
+    alloc: Global,
+    text: &mut Vec<u8>,
+    number: u64,
+    offer: &Offer,
+) -> Result<(), AllocError>
+    ensures { OnOk result (text.new.items ≡ text.old.items ++ offer_text number offer.now) }
+{
+    add_head(alloc, text, offer.extent, number)?;
+    text.extend_from_slice(offer.words.as_bytes())?;
+    add_diff(text, offer.diff.as_bytes())
 }
 
 /// Adds the beginning of an offer.

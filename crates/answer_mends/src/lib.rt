@@ -3,6 +3,7 @@
 #![tactic(auto)]
 
 pub mod apply;
+pub mod as_json;
 mod choosing;
 pub mod fixing;
 mod judged_offers;

@@ -8,10 +8,11 @@ use mend_texts::{Mend, Mended, mend_text};
 use std::alloc::{AllocError, Global};
 use words::Words;
 
-/// A diff of a text, and words on it.
+/// A diff of a text, and words on it: a sentence for each change among them.
 #[derive(Drop)]
 pub(crate) struct Proposal {
     pub words: String,
+    pub sentences: Vec<String>,
     pub diff: String,
 }
 
@@ -49,10 +50,16 @@ fn proposed(
     summed: Summed,
 ) -> Result<Option<Proposal>, AllocError> {
     match mend_text(alloc, text, set, mends)? {
-        Some(mended) => Ok(Some(Proposal {
-            words: words_on(alloc, &mended, summed)?,
-            diff: diff_of(alloc, text, &mended)?,
-        })),
+        Some(mended) => {
+            let words = words_on(alloc, &mended, summed)?;
+            let diff = diff_of(alloc, text, &mended)?;
+            let Mended { sentences, .. } = mended;
+            Ok(Some(Proposal {
+                words,
+                sentences,
+                diff,
+            }))
+        }
         None => Ok(None),
     }
 }

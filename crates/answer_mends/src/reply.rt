@@ -1,11 +1,11 @@
 //! What is answered on a set, whatever is done with its mends.
 
 ghost use Rattle.std.specs.Prelude.{◌≡◌, ◌++◌, IfOk, OnOk};
-ghost use Rattle.drvhost_devices.specs.Answer.{ended, is_image};
+ghost use Rattle.drvhost_devices.specs.Answer.{is_image};
 ghost use Rattle.report.specs.Verdict.{refusal_line};
 ghost use Rattle.answer_mends.specs.Mend.{end_of, none_told, nothing_told, text_of, told};
 
-use crate::judged_offers::Offered;
+use crate::judged_offers::{Offer, add_offers};
 use asm_line::listing;
 use drvhost_devices::fault::End;
 use drvhost_devices::reading::begins_image;
@@ -14,24 +14,13 @@ use model::abs::Refusal;
 use report::lines::Lines;
 use std::alloc::{AllocError, Global};
 
-/// What is answered, and how the job ends.
-#[derive(Drop)]
-pub(crate) struct Reply {
-    pub end: End,
-    pub text: Vec<u8>,
-}
-
 /// That a set is accepted already.
-pub(crate) fn nothing(alloc: Global) -> Result<Reply, AllocError>
-    ensures { IfOk result
-        (λ reply. ended reply.end reply.text.items ≡ ended End.Complete nothing_told) }
+pub(crate) fn nothing(alloc: Global) -> Result<Vec<u8>, AllocError>
+    ensures { IfOk result (λ text. text.items ≡ nothing_told) }
 {
     let mut text = Vec::new(alloc);
     text.extend_from_slice(b"accepted: nothing to mend\n")?;
-    Ok(Reply {
-        end: End::Complete,
-        text,
-    })
+    Ok(text)
 }
 
 /// The text that is mended: the file's own, or of an image the listing of its set.
@@ -52,34 +41,21 @@ pub(crate) fn told(
     alloc: Global,
     tries: u64,
     refusal: &Refusal,
-    offered: &Offered,
+    offers: &[Offer],
 ) -> Result<Vec<u8>, AllocError>
-    ensures { IfOk result (λ text. text.items
-        ≡ refusal_line refusal.now ++ told tries offered.now.count offered.now.text.items) }
+    ensures { IfOk result
+        (λ text. text.items ≡ refusal_line refusal.now ++ told tries offers.now) }
 {
     let mut line = Lines::new(alloc)?;
     line.refusal(refusal);
     let mut text = Vec::new(alloc);
     text.extend_from_slice(line.bytes())?;
-    add_offers(alloc, &mut text, tries, offered)?;
-    Ok(text)
-}
-
-/// Adds offers, or that there is none.
-fn add_offers(
-    alloc: Global,
-    text: &mut Vec<u8>,
-    tries: u64,
-    offered: &Offered,
-) -> Result<(), AllocError>
-    ensures { OnOk result (text.new.items
-        ≡ text.old.items ++ told tries offered.now.count offered.now.text.items) }
-{
-    if offered.count == 0 {
-        return add_none(alloc, text, tries);
+    if offers.is_empty() {
+        add_none(alloc, &mut text, tries)?;
+    } else {
+        add_offers(alloc, &mut text, offers)?;
     }
-    text.extend_from_slice(offered.text.as_slice())?;
-    Ok(())
+    Ok(text)
 }
 
 /// Adds that there is none.

@@ -116,11 +116,12 @@ NamesOf ToCheck rows job =
 NamesOf ToExplain rows (OfPage page) = IsPageAsked rows page
 NamesOf ToExplain rows job =
     (first_of (codes "RULE") rows ≡ None) × NamesExplained (coloring_of rows) rows job
-NamesOf ToMend rows (OnSet set (Mend tries)) =
+NamesOf ToMend rows (OnSet set (Mend tries form)) =
     Has (codes "FILE") rows set.now × (tries_of rows ≡ Some tries) × (wanted_of rows ≡ Some None)
+    × (form_of rows ≡ Some form)
 NamesOf ToMend rows (Apply set tries wanted) =
     Has (codes "FILE") rows set.now × (tries_of rows ≡ Some tries)
-    × (wanted_of rows ≡ Some (Some wanted))
+    × (wanted_of rows ≡ Some (Some wanted)) × (form_of rows ≡ Some InLines)
 NamesOf ToTrace rows (OnRun names way) =
     HasBoth (codes "SCHEDULE") rows names
     × IsTrace (answer_format_of rows) (verification_of rows) way
@@ -143,18 +144,20 @@ NamesOf ToTest rows (Test testing) =
     × (testing.verbosity ≡ verbosity_of rows) × (jobs_of rows ≡ Some testing.jobs)
 NamesOf ToSchedule rows (OnRun names (Schedule verification)) =
     HasBoth (codes "SCENARIO") rows names × (verification ≡ verification_of rows)
-NamesOf ToHunt rows (OnSet set (Hunt reach)) =
+NamesOf ToHunt rows (OnSet set (Hunt reach form)) =
     Has (codes "FILE") rows set.now × IsReach rows reach × (is_given (codes "exact") rows ≡ false)
-    × (is_given (codes "scenario") rows ≡ false)
-NamesOf ToHunt rows (OnSet set (HuntExactly reach)) =
+    × (is_given (codes "scenario") rows ≡ false) × (form_of rows ≡ Some form)
+NamesOf ToHunt rows (OnSet set (HuntExactly reach form)) =
     Has (codes "FILE") rows set.now × IsReach rows reach × (is_given (codes "exact") rows ≡ true)
     × (is_given (codes "stuck") rows ≡ false) × (is_given (codes "scenario") rows ≡ false)
+    × (form_of rows ≡ Some form)
 NamesOf ToHunt rows (OnSet set (Find reach)) =
     Has (codes "FILE") rows set.now × IsReach rows reach × (is_given (codes "exact") rows ≡ false)
-    × (is_given (codes "scenario") rows ≡ true)
+    × (is_given (codes "scenario") rows ≡ true) × (form_of rows ≡ Some InLines)
 NamesOf ToHunt rows (OnSet set (FindExactly reach)) =
     Has (codes "FILE") rows set.now × IsReach rows reach × (is_given (codes "exact") rows ≡ true)
     × (is_given (codes "stuck") rows ≡ false) × (is_given (codes "scenario") rows ≡ true)
+    × (form_of rows ≡ Some InLines)
 NamesOf ToHost rows (Host serving) =
     HasBoth (codes "SCRIPT") rows serving.names × HasWorkers rows serving.workers
     × (form_of rows ≡ Some serving.form) × (first_of (codes "OUT") rows ≡ None)

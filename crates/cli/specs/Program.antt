@@ -110,7 +110,8 @@ tell_command =
     ∷ color_option ∷ [])
 
 -- `hunt FILE [--threads N] [--packets N] [--states N] [--events N] [--argument N] [--stuck]
--- [--exact] [--scenario]`: `--stuck` and `--exact` don't go together
+-- [--exact] [--scenario] [--format FORMAT]`: `--stuck` and `--exact` don't go together, nor a
+-- scenario and JSON
 abbrev pub hunt_command : App
 hunt_command =
     set_command (codes "hunt")
@@ -119,7 +120,7 @@ hunt_command =
     ∷ number_option (codes "states") MAX_WORLDS
     ∷ any_number_option (codes "events")
     ∷ any_number_option (codes "argument")
-    ∷ flag (codes "stuck") ∷ flag (codes "exact") ∷ flag (codes "scenario") ∷ [])
+    ∷ flag (codes "stuck") ∷ flag (codes "exact") ∷ flag (codes "scenario") ∷ format_option ∷ [])
 
 -- `host FILE SCRIPT --workers N [--format FORMAT] [--history OUT]`: JSON goes with no history
 abbrev pub host_command : App
@@ -129,12 +130,12 @@ host_command =
     ∷ required (number_option (codes "workers") MAX_THREADS) ∷ format_option
     ∷ value_option (codes "OUT") (codes "history") AnyText ∷ [])
 
--- `mend FILE [--tries N] [--apply] [--nth K]`
+-- `mend FILE [--tries N] [--apply] [--nth K] [--format FORMAT]`: JSON goes with none that is applied
 abbrev pub mend_command : App
 mend_command =
     set_command (codes "mend")
     (number_option (codes "tries") MAX_TRIES ∷ flag (codes "apply")
-    ∷ number_option (codes "nth") MAX_OFFERS ∷ [])
+    ∷ number_option (codes "nth") MAX_OFFERS ∷ format_option ∷ [])
 
 -- `test FILE SCENARIO.. [--unchecked] [--format FORMAT] [--verbose] [--jobs N]`
 abbrev pub test_command : App

@@ -144,12 +144,12 @@ pub enum Judging {
     ExplainJson(Extent),
 }
 
-/// How what came of the commands of a script is written.
+/// How an answer is written.
 #[derive(Clone, Copy)]
 pub enum Form {
-    /// In a line each.
+    /// In lines of text.
     Lines,
-    /// In an object of JSON each.
+    /// In lines of JSON.
     Json,
 }
 
@@ -167,17 +167,18 @@ pub enum Report {
 /// What is done with a driver set alone.
 #[derive(Clone, Copy)]
 pub enum Task {
-    /// `mend FILE [--tries N]`
-    Mend(u64),
+    /// `mend FILE [--tries N] [--format json]`
+    Mend(u64, Form),
     /// `list FILE`
     List,
-    /// `hunt FILE [--threads N] [--packets N] [--states N] [--events N] [--argument N] [--stuck]`
-    Hunt(Reach),
+    /// `hunt FILE [--threads N] [--packets N] [--states N] [--events N] [--argument N] [--stuck]
+    /// [--format json]`
+    Hunt(Reach, Form),
     /// The same with `--exact`, which doesn't go with `--stuck`.
-    HuntExactly(Reach),
-    /// As `Hunt`, with `--scenario`.
+    HuntExactly(Reach, Form),
+    /// As `Hunt`, with `--scenario`, as text.
     Find(Reach),
-    /// As `HuntExactly`, with `--scenario`.
+    /// As `HuntExactly`, with `--scenario`, as text.
     FindExactly(Reach),
 }
 

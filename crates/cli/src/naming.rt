@@ -219,11 +219,12 @@ fn mend_named<'a>(matches: &ArgMatches<'a>) -> Option<Job<'a>>
 {
     let set = argument(matches, "FILE")?;
     let tries = tries(matches)?;
-    match wanted(matches)? {
-        Some(wanted) => Some(Job::Apply { set, tries, wanted }),
-        None => Some(Job::OnSet {
+    match (wanted(matches)?, form(matches)?) {
+        (Some(wanted), Form::Lines) => Some(Job::Apply { set, tries, wanted }),
+        (Some(_), Form::Json) => None,
+        (None, form) => Some(Job::OnSet {
             set,
-            task: Task::Mend(tries),
+            task: Task::Mend(tries, form),
         }),
     }
 }
@@ -317,12 +318,13 @@ fn hunt_named<'a>(matches: &ArgMatches<'a>) -> Option<Job<'a>>
         is_given(matches, "exact"),
         is_given(matches, "stuck"),
         is_given(matches, "scenario"),
+        form(matches)?,
     ) {
-        (true, true, _) => return None,
-        (true, false, true) => Task::FindExactly(reach),
-        (true, false, false) => Task::HuntExactly(reach),
-        (false, _, true) => Task::Find(reach),
-        (false, _, false) => Task::Hunt(reach),
+        (true, true, _, _) | (_, _, true, Form::Json) => return None,
+        (true, false, true, Form::Lines) => Task::FindExactly(reach),
+        (true, false, false, form) => Task::HuntExactly(reach, form),
+        (false, _, true, Form::Lines) => Task::Find(reach),
+        (false, _, false, form) => Task::Hunt(reach, form),
     };
     Some(Job::OnSet { set, task })
 }

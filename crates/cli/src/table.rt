@@ -158,6 +158,7 @@ pub(crate) const COMMANDS: [Entry<'static>; 13] = [
                 MAX_OFFERS as i64,
                 "Writes the text with the mend of a number, 1 to 3",
             ),
+            FORMAT,
         ],
     },
     Entry {
@@ -270,6 +271,7 @@ pub(crate) const COMMANDS: [Entry<'static>; 13] = [
                 "scenario",
                 "Writes the run as a scenario that fails by it, in place of a schedule",
             ),
+            FORMAT,
         ],
     },
     Entry {

@@ -85,7 +85,18 @@ fn misfit_of<'a>(command: Subcommand, matches: &ArgMatches<'a>) -> Misfit<'a> {
         Subcommand::Hunt if is_given(matches, "exact") && is_given(matches, "stuck") => {
             Misfit::Conflict("--exact", "--stuck")
         }
-        Subcommand::Host if form(matches).is_none() => Misfit::Format(ANSWERS),
+        Subcommand::Host | Subcommand::Hunt | Subcommand::Mend if form(matches).is_none() => {
+            Misfit::Format(ANSWERS)
+        }
+        Subcommand::Hunt if is_given(matches, "scenario") => {
+            Misfit::Conflict("--scenario", "--format json")
+        }
+        Subcommand::Mend if is_given(matches, "apply") => {
+            Misfit::Conflict("--apply", "--format json")
+        }
+        Subcommand::Mend if argument(matches, "nth").is_some() => {
+            Misfit::Conflict("--nth <nth>", "--format json")
+        }
         Subcommand::Host if argument(matches, "OUT").is_some() => {
             Misfit::Conflict("--history <OUT>", "--format json")
         }

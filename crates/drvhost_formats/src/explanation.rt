@@ -1,11 +1,9 @@
 //! The objects of verdicts that are explained.
 
-ghost use Rattle.std.specs.Prelude.{◌≡◌, ◌++◌, ◌∷◌, [], OnOk, Some, codes, decimal};
+ghost use Rattle.std.specs.Prelude.{◌≡◌, ◌++◌, ◌∷◌, OnOk, Some, codes};
 ghost use Rattle.json.specs.Json.{array};
-ghost use Rattle.json.specs.Token.{key, number, string};
+ghost use Rattle.json.specs.Token.{key};
 ghost use Rattle.json.specs.Tree.{items_tokens, json_tokens};
-ghost use Rattle.model.specs.Words.{rule_word};
-ghost use Rattle.report.specs.Rule.{rule_name};
 ghost use Rattle.drvhost_formats.specs.Explanation.{edit_json, edits_json, region_json, step_json};
 ghost use Rattle.drvhost_formats.specs.Explanation.{steps_json};
 
@@ -15,7 +13,7 @@ use mend_edits::LineEdit;
 use model::abs::Refusal;
 use report_json::member::{begin, put_number, put_text};
 use report_json::to_json::ToJson;
-use report_json::verdict::{CertifiedRoutine, put_rule, write_routines};
+use report_json::verdict::{CertifiedRoutine, put_place, write_routines};
 use report_sarif::log::{Region, Step};
 use std::alloc::AllocError;
 
@@ -86,22 +84,6 @@ impl ToJson for ExplainedRefusal<'_> {
 
     ghost nests = { λ told. explained_nests told.file.now told.refusal told.region told.shown.now
         (record { why = told.why.now; fix = told.fix.now; edits = told.edits.now }) };
-}
-
-/// Adds a rule, and the place where it is broken, by numbers.
-fn put_place(out: &mut Writer, refusal: Refusal) -> Result<(), AllocError>
-    ensures before { out.new.before ≡ out.old.before }
-    ensures tokens { OnOk result (out.new.tokens ≡ out.old.tokens ++ key (codes "rule")
-        ∷ string (rule_word refusal.rule) ∷ key (codes "rule_name")
-        ∷ string (rule_name refusal.rule) ∷ key (codes "driver")
-        ∷ number (decimal refusal.driver) ∷ key (codes "routine")
-        ∷ number (decimal refusal.routine) ∷ key (codes "position")
-        ∷ number (decimal refusal.at) ∷ []) }
-{
-    put_rule(out, refusal.rule)?;
-    put_number(out, "driver", refusal.driver as u64)?;
-    put_number(out, "routine", refusal.routine as u64)?;
-    put_number(out, "position", refusal.at as u64)
 }
 
 /// Adds where something stands in a text.

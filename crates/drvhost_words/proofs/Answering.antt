@@ -151,26 +151,33 @@ pub check_known : (known supply : Supply) → IsSuppliedAs known supply → (ans
 check_known known supply h answer (bytes, holds, right) =
     (bytes, holds_known known supply bytes h holds, right)
 
-task_known : (task : Task) (known supply : Supply) → IsSuppliedAs known supply
-    → (answer : Answer) → IsTaskOf task supply answer → IsTaskOf task known answer
-task_known (Mend tries) known supply h answer (bytes, holds, right) =
+task_known : (task : Task) (name : List ℕ) (known supply : Supply) → IsSuppliedAs known supply
+    → (answer : Answer) → IsTaskOf task name supply answer → IsTaskOf task name known answer
+task_known (Mend tries Lines) name known supply h answer (bytes, holds, right) =
     (bytes, holds_known known supply bytes h holds, right)
-task_known Listing known supply h answer (bytes, holds, right) =
+task_known (Mend tries Json) name known supply h answer (bytes, holds, right) =
     (bytes, holds_known known supply bytes h holds, right)
-task_known (Hunt reach) known supply h answer (bytes, holds, right) =
+task_known Listing name known supply h answer (bytes, holds, right) =
     (bytes, holds_known known supply bytes h holds, right)
-task_known (HuntExactly reach) known supply h answer (bytes, holds, right) =
+task_known (Hunt reach Lines) name known supply h answer (bytes, holds, right) =
     (bytes, holds_known known supply bytes h holds, right)
-task_known (Find reach) known supply h answer (bytes, holds, right) =
+task_known (Hunt reach Json) name known supply h answer (bytes, holds, right) =
     (bytes, holds_known known supply bytes h holds, right)
-task_known (FindExactly reach) known supply h answer (bytes, holds, right) =
+task_known (HuntExactly reach Lines) name known supply h answer (bytes, holds, right) =
+    (bytes, holds_known known supply bytes h holds, right)
+task_known (HuntExactly reach Json) name known supply h answer (bytes, holds, right) =
+    (bytes, holds_known known supply bytes h holds, right)
+task_known (Find reach) name known supply h answer (bytes, holds, right) =
+    (bytes, holds_known known supply bytes h holds, right)
+task_known (FindExactly reach) name known supply h answer (bytes, holds, right) =
     (bytes, holds_known known supply bytes h holds, right)
 
 pub work_known : (work : Work) (name : List ℕ) (known supply : Supply) → IsSuppliedAs known supply
     → (answer : Answer) → IsDoneOf work name supply answer → IsDoneOf work name known answer
 work_known (Judge judging) name known supply h answer right =
     judged_known judging name known supply h answer right
-work_known (Do task) name known supply h answer right = task_known task known supply h answer right
+work_known (Do task) name known supply h answer right =
+    task_known task name known supply h answer right
 
 pub rewrite_known : (known supply : Supply) → IsSuppliedAs known supply → (answer : Answer)
     → IsRewriteOf supply answer → IsRewriteOf known answer

@@ -14,10 +14,14 @@ use Rattle.drvhost_devices.specs.Ends.{Ends, HoldsRun, IsCheckOf, IsListOf, IsRe
 use Rattle.answer_hunts.specs.Find.{IsFindOf}
 use Rattle.answer.specs.Told.{IsUnopenedJson}
 use Rattle.drvhost_formats.specs.Trace.{IsTraceJsonOf}
+use Rattle.answer_hunts.specs.declared.hunt.Way.{Way as Hunted}
 use Rattle.answer_hunts.specs.declared.hunt.Way.TheVariants.{Quick, Exact}
 use Rattle.answer_hunts.specs.Hunt.{IsHuntOfWay}
+use Rattle.answer_hunts.specs.Json.{IsHuntJsonOf}
 use Rattle.answer_mends.specs.declared.apply.Asked.{Asked as Applying}
 use Rattle.answer_mends.specs.Apply.{IsApplyOf, IsApplyWith}
+use Rattle.answer_mends.specs.declared.mend.Asked.{Asked}
+use Rattle.answer_mends.specs.Json.{IsMendJsonOf}
 use Rattle.answer_mends.specs.Mend.{IsMendOf}
 use Rattle.answer_scenarios.specs.Scenarios.{IsScheduleOf}
 use Rattle.answer_explain.specs.Explained.{IsLockOrderExplained}
@@ -57,6 +61,7 @@ use Rattle.drvhost_told.specs.Served.{IsHostJsonOf}
 use Rattle.drvhost_told.specs.Tell.{IsTellJsonOf}
 use Rattle.drvhost_words.specs.declared.work.Work.{Work}
 use Rattle.drvhost_words.specs.declared.work.Work.TheVariants.{Do, Judge}
+use Rattle.hunt_facts.specs.declared.bounds.Bounds.{Bounds}
 use Rattle.drvhost_words.specs.Unread.{IsNamedUnread, IsOneOf}
 
 -- what a run of a set by an input answers, by the names of their files and what these have
@@ -118,19 +123,30 @@ abbrev pub AreWarningsBy : Form → Supply → ℕ → List ℕ → Type 0
 AreWarningsBy Lines set status warnings = AreWarningsOf set status warnings
 AreWarningsBy Json set status warnings = warnings ≡ []
 
--- what a task with a set answers, where this is what its file has
-abbrev pub IsTaskOf : Task → Supply → Answer → Type 0
-IsTaskOf (Mend tries) = IsMendOf (record { tries = tries })
-IsTaskOf Listing = IsListOf
-IsTaskOf (Hunt reach) = IsHuntOfWay Quick reach
-IsTaskOf (HuntExactly reach) = IsHuntOfWay Exact reach
-IsTaskOf (Find reach) = IsFindOf Quick reach
-IsTaskOf (FindExactly reach) = IsFindOf Exact reach
+-- what a hunt in such a way answers in a form, within bounds, by the name of its file and what this
+-- has
+abbrev pub IsHuntIn : Form → Hunted → Bounds → List ℕ → Supply → Answer → Type 0
+IsHuntIn Lines way bounds name = IsHuntOfWay way bounds
+IsHuntIn Json way bounds name = IsHuntJsonOf way bounds name
+
+-- and what `mend` answers
+abbrev pub IsMendIn : Form → Asked → List ℕ → Supply → Answer → Type 0
+IsMendIn Lines asked name = IsMendOf asked
+IsMendIn Json asked name = IsMendJsonOf asked name
+
+-- what a task with a set answers, by the name of its file and what this has
+abbrev pub IsTaskOf : Task → List ℕ → Supply → Answer → Type 0
+IsTaskOf (Mend tries form) name = IsMendIn form (record { tries = tries }) name
+IsTaskOf Listing name = IsListOf
+IsTaskOf (Hunt reach form) name = IsHuntIn form Quick reach name
+IsTaskOf (HuntExactly reach form) name = IsHuntIn form Exact reach name
+IsTaskOf (Find reach) name = IsFindOf Quick reach
+IsTaskOf (FindExactly reach) name = IsFindOf Exact reach
 
 -- what any work with it does, by the name of its file and what this has
 abbrev pub IsDoneOf : Work → List ℕ → Supply → Answer → Type 0
 IsDoneOf (Judge judging) name = IsJudged judging name
-IsDoneOf (Do task) name = IsTaskOf task
+IsDoneOf (Do task) name = IsTaskOf task name
 
 -- a page that stands in the program
 abbrev pub IsPage : Page → Answer → Type 0
@@ -138,18 +154,28 @@ IsPage (Rule rule) = IsRuleExplained rule
 IsPage LockOrder = IsLockOrderExplained
 IsPage Version = IsVersion
 
--- whether all that such work answers is JSON
-abbrev pub is_in_json : Work → Bool
-is_in_json (Judge judging) = judged_in_json judging
-is_in_json (Do task) = false
+-- the form of what a task answers
+abbrev pub form_of_task : Task → Form
+form_of_task (Mend tries form) = form
+form_of_task Listing = Lines
+form_of_task (Hunt reach form) = form
+form_of_task (HuntExactly reach form) = form
+form_of_task (Find reach) = Lines
+form_of_task (FindExactly reach) = Lines
 
--- what it answers where the file of a name can't be opened
-abbrev pub IsUnopenedAs : Bool → List ℕ → Answer → Type 0
-IsUnopenedAs true = IsUnopenedJson
-IsUnopenedAs false = IsUnopened
+-- and of any work with a set
+abbrev pub form_of_work : Work → Form
+form_of_work (Judge judging) = if judged_in_json judging then Json else Lines
+form_of_work (Do task) = form_of_task task
 
+-- what is answered in a form where the file of a name can't be opened
+abbrev pub IsUnopenedIn : Form → List ℕ → Answer → Type 0
+IsUnopenedIn Lines = IsUnopened
+IsUnopenedIn Json = IsUnopenedJson
+
+-- and by such work
 abbrev pub IsUnopenedBy : Work → List ℕ → Answer → Type 0
-IsUnopenedBy work = IsUnopenedAs (is_in_json work)
+IsUnopenedBy work = IsUnopenedIn (form_of_work work)
 
 -- what is right for work with the set of the file of a name
 abbrev pub IsOfWork : Work → (List ℕ → Supply) → List ℕ → Answer → Type 0

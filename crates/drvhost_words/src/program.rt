@@ -3,12 +3,13 @@
 ghost use Rattle.std.specs.Prelude.{◌≡◌, ◌+◌, ◌<◌, ◌^◌, ◌⊎◌, ℕ, List, Option};
 ghost use Rattle.std.specs.Prelude.{drop, map, string_bytes, true};
 ghost use Rattle.drvhost_words.specs.Program.{EndsAtOnce, FileEnds, IsAnswerToLost, IsDoneOf};
-ghost use Rattle.drvhost_words.specs.Program.{IsJobCount, IsOfApply, IsOfWork, IsPage, IsQuietly};
+ghost use Rattle.drvhost_words.specs.Program.{IsHuntIn, IsJobCount, IsMendIn, IsOfApply, IsOfWork};
+ghost use Rattle.drvhost_words.specs.Program.{IsPage, IsQuietly};
 ghost use Rattle.drvhost_words.specs.Program.{IsRunBy, IsTaskOf, IsUnopenedBy, JobEnds, JobStores};
 ghost use Rattle.drvhost_words.specs.Program.{MendsFile, OpensToTrace, PathsEnd, ProgramEnds};
 ghost use Rattle.drvhost_words.specs.Program.{ProgramStores, RewritesFile, WordsEnd, WordsStore};
-ghost use Rattle.drvhost_words.specs.Program.{asked_by, is_in_json, settled_judging};
-ghost use Rattle.drvhost_words.specs.Program.{verification_of};
+ghost use Rattle.drvhost_words.specs.Program.{asked_by, form_of_task, form_of_work};
+ghost use Rattle.drvhost_words.specs.Program.{settled_judging, verification_of};
 ghost use Rattle.drvhost_many.specs.All.{Counted};
 ghost use Rattle.drvhost_words.specs.Devices.{CountedOver};
 ghost use Rattle.drvhost_tests.specs.Told.{asked_of};
@@ -28,24 +29,27 @@ use crate::telling::{Shown, tell_shown};
 use crate::unread::{tell_if_unread, tell_which_unread};
 use crate::work::Work;
 use answer::as_json::Json;
+use answer::as_text::Text;
+use answer::check::Judgement;
 use answer::deliver::{deliver, write_answer};
 use answer::form::Form;
-use answer::judged::Unjudged;
+use answer::judged::{self, Unjudged};
 use answer::list::Listing;
 use answer_explain::rewriting::rewrite;
 use answer_explain::rule::{explain_lock_order, explain_rule};
 use answer_explain::version::version;
-use answer_hunts::find::find;
-use answer_hunts::hunt::{self, Hunting, hunt_by};
+use answer_hunts::find::Finding;
+use answer_hunts::hunt::{self, Hunting};
 use answer_logs::logging::{Log, log_paths};
 use answer_mends::apply::{self, apply};
-use answer_mends::mend::{self, mend};
+use answer_mends::as_json::MendsJson;
+use answer_mends::mend::{self, MendsText};
 use answer_runs::trace::trace;
 use answer_scenarios::schedule::schedule;
 use answer_views::draw::{Drawing, draw};
 use cli::job::{
-    FileNames, Job, JobFault, Judged, Judging, Page, Task, Testing, Way, refuse_unknown_words,
-    refuse_words,
+    self, FileNames, Job, JobFault, Judged, Judging, Page, Task, Testing, Way,
+    refuse_unknown_words, refuse_words,
 };
 use drvhost_devices::device::{Sink, Source};
 use drvhost_devices::fault::no_memory;
@@ -370,6 +374,30 @@ impl<'p, P: Progress> Beside<'p, P> {
             progress: self.progress,
         }
     }
+
+    /// The same, told in a form.
+    fn hunted<F>(&self, way: hunt::Way, reach: Reach, form: F) -> Unjudged<Hunting<'p, P>, F>
+        ensures way { result.job.way ≡ way }
+        ensures reach { result.job.reach ≡ reach }
+    {
+        Unjudged {
+            job: self.hunting(way, reach),
+            form,
+        }
+    }
+
+    /// The same as text, but of a run that is found a scenario is written.
+    fn found(&self, way: hunt::Way, reach: Reach) -> Unjudged<Finding<'p, P>, Text>
+        ensures way { result.job.hunting.way ≡ way }
+        ensures reach { result.job.hunting.reach ≡ reach }
+    {
+        Unjudged {
+            job: Finding {
+                hunting: self.hunting(way, reach),
+            },
+            form: Text,
+        }
+    }
 }
 
 /// Does some work with the set of a file. One that can't be opened or read is named.
@@ -415,19 +443,35 @@ fn refuse_unopened<O: Sink, E: Sink>(
     ensures { (reads : ℕ) → AnswersOver O.Sink E.Sink (IsUnopenedBy work name.now)
         reads reads out.old out.new err.old err.new result }
 {
-    if is_in_json(work) {
-        return write_answer(Json.unopened(alloc, name), out, err);
+    match form_of_work(work) {
+        job::Form::Lines => tell_unopened(name, err),
+        job::Form::Json => write_answer(Json.unopened(alloc, name), out, err),
     }
-    tell_unopened(name, err)
 }
 
-/// Whether all that some work answers is JSON.
-fn is_in_json(work: Work) -> bool
-    ensures { result ≡ is_in_json work }
+/// The form of what some work answers.
+fn form_of_work(work: Work) -> job::Form
+    ensures { result ≡ form_of_work work }
 {
     match work {
-        Work::Judge(judging) => file::is_in_json(judging),
-        Work::Do(_task) => false,
+        Work::Judge(judging) => {
+            if file::is_in_json(judging) {
+                job::Form::Json
+            } else {
+                job::Form::Lines
+            }
+        }
+        Work::Do(task) => form_of_task(task),
+    }
+}
+
+/// The form of what a task answers.
+fn form_of_task(task: Task) -> job::Form
+    ensures { result ≡ form_of_task task }
+{
+    match task {
+        Task::Mend(_, form) | Task::Hunt(_, form) | Task::HuntExactly(_, form) => form,
+        Task::List | Task::Find(_) | Task::FindExactly(_) => job::Form::Lines,
     }
 }
 
@@ -446,41 +490,129 @@ fn perform_work<S: Source, O: Sink, E: Sink, P: Progress>(
 {
     match work {
         Work::Judge(judging) => judge(beside.alloc, judging, name, set, out, err),
-        Work::Do(task) => fulfil(beside, task, set, out, err),
+        Work::Do(task) => fulfil(beside, task, name, set, out, err),
     }
 }
 
-/// Does a task with the set of a source.
+/// Does a task with the set of a source, whose file has this name.
 fn fulfil<S: Source, O: Sink, E: Sink, P: Progress>(
     beside: &Beside<'_, P>,
     task: Task,
+    name: &str,
     set: &mut S,
     out: &mut O,
     err: &mut E,
 ) -> u8
     requires { CanAnswer O.Sink E.Sink (S.failures set.old) out.old err.old }
-    ensures { AnswersOver O.Sink E.Sink (IsTaskOf task (S.supply set.old))
+    ensures { AnswersOver O.Sink E.Sink (IsTaskOf task name.now (S.supply set.old))
         (S.failures set.old) (S.failures set.new) out.old out.new err.old err.new result }
 {
     let alloc = beside.alloc;
     match task {
-        Task::Mend(tries) => mend(alloc, mend::Asked { tries }, set, out, err),
-        Task::List => deliver(&Unjudged { job: Listing }, alloc, "", set, out, err),
-        Task::Hunt(reach) => {
-            let asked = beside.hunting(hunt::Way::Quick, reach);
-            hunt_by(alloc, &asked, set, out, err)
+        Task::Mend(tries, form) => {
+            let asked = mend::Asked { tries };
+            tell_mends(alloc, Offered { asked, form }, name, set, out, err)
         }
-        Task::HuntExactly(reach) => {
-            let asked = beside.hunting(hunt::Way::Exact, reach);
-            hunt_by(alloc, &asked, set, out, err)
+        Task::List => {
+            let listed = Unjudged {
+                job: Listing,
+                form: Text,
+            };
+            deliver(&listed, alloc, name, set, out, err)
+        }
+        Task::Hunt(reach, form) => {
+            let way = hunt::Way::Quick;
+            tell_hunt(beside, Within { way, reach, form }, name, set, out, err)
+        }
+        Task::HuntExactly(reach, form) => {
+            let way = hunt::Way::Exact;
+            tell_hunt(beside, Within { way, reach, form }, name, set, out, err)
         }
         Task::Find(reach) => {
-            let asked = beside.hunting(hunt::Way::Quick, reach);
-            find(alloc, &asked, set, out, err)
+            let found = beside.found(hunt::Way::Quick, reach);
+            deliver(&found, alloc, name, set, out, err)
         }
         Task::FindExactly(reach) => {
-            let asked = beside.hunting(hunt::Way::Exact, reach);
-            find(alloc, &asked, set, out, err)
+            let found = beside.found(hunt::Way::Exact, reach);
+            deliver(&found, alloc, name, set, out, err)
+        }
+    }
+}
+
+/// Verdicts as mends, in a form.
+fn mended_in<F>(form: F) -> judged::Judged<Judgement, F>
+    ensures { result.form ≡ form }
+{
+    judged::Judged {
+        job: Judgement,
+        form,
+    }
+}
+
+/// Mends that are asked for, and the form in which they are told.
+#[derive(Clone, Copy)]
+struct Offered {
+    asked: mend::Asked,
+    form: job::Form,
+}
+
+/// Tells mends of the set of a source, whose file has this name.
+fn tell_mends<S: Source, O: Sink, E: Sink>(
+    alloc: Global,
+    offered: Offered,
+    name: &str,
+    set: &mut S,
+    out: &mut O,
+    err: &mut E,
+) -> u8
+    requires { CanAnswer O.Sink E.Sink (S.failures set.old) out.old err.old }
+    ensures { AnswersOver O.Sink E.Sink
+        (IsMendIn offered.form offered.asked name.now (S.supply set.old))
+        (S.failures set.old) (S.failures set.new) out.old out.new err.old err.new result }
+{
+    let asked = offered.asked;
+    match offered.form {
+        job::Form::Lines => {
+            let mended = mended_in(MendsText { asked });
+            deliver(&mended, alloc, name, set, out, err)
+        }
+        job::Form::Json => {
+            let mended = mended_in(MendsJson { asked });
+            deliver(&mended, alloc, name, set, out, err)
+        }
+    }
+}
+
+/// A hunt in such a way, within such a reach, and the form in which it is told.
+#[derive(Clone, Copy)]
+struct Within {
+    way: hunt::Way,
+    reach: Reach,
+    form: job::Form,
+}
+
+/// Tells a hunt through the runs of the set of a source, whose file has this name.
+fn tell_hunt<S: Source, O: Sink, E: Sink, P: Progress>(
+    beside: &Beside<'_, P>,
+    within: Within,
+    name: &str,
+    set: &mut S,
+    out: &mut O,
+    err: &mut E,
+) -> u8
+    requires { CanAnswer O.Sink E.Sink (S.failures set.old) out.old err.old }
+    ensures { AnswersOver O.Sink E.Sink
+        (IsHuntIn within.form within.way within.reach name.now (S.supply set.old))
+        (S.failures set.old) (S.failures set.new) out.old out.new err.old err.new result }
+{
+    match within.form {
+        job::Form::Lines => {
+            let hunted = beside.hunted(within.way, within.reach, Text);
+            deliver(&hunted, beside.alloc, name, set, out, err)
+        }
+        job::Form::Json => {
+            let hunted = beside.hunted(within.way, within.reach, Json);
+            deliver(&hunted, beside.alloc, name, set, out, err)
         }
     }
 }

@@ -124,22 +124,14 @@ fn show<S: Source, P: Source, O: Sink, E: Sink>(
 pub fn hunt(alloc: Global, reach: Reach, set: &[u8]) -> Result<Told, OutOfMemory>
     ensures { IfOk result (IsHuntOf reach (Bytes set.now)) }
 {
-    let mut source = Reader::new(Some(set));
-    let mut output = Writer::new(Vec::new(alloc));
-    let mut errors = Writer::new(Vec::new(alloc));
-    let exit = answer_hunts::hunt::hunt(alloc, reach, &mut source, &mut output, &mut errors);
-    collected(exit, source.failures(), 0, output, errors)
+    Ok(answer_hunts::hunt::hunt(alloc, reach, set)?)
 }
 
 /// Mends of a set's text, as diffs.
 pub fn mend(alloc: Global, asked: Asked, set: &[u8]) -> Result<Told, OutOfMemory>
     ensures { IfOk result (IsMendOf asked (Bytes set.now)) }
 {
-    let mut source = Reader::new(Some(set));
-    let mut output = Writer::new(Vec::new(alloc));
-    let mut errors = Writer::new(Vec::new(alloc));
-    let exit = answer_mends::mend::mend(alloc, asked, &mut source, &mut output, &mut errors);
-    collected(exit, source.failures(), 0, output, errors)
+    Ok(answer_mends::mend::mend(alloc, asked, set)?)
 }
 
 /// The listing of a set.

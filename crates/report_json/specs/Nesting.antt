@@ -46,7 +46,7 @@ fault_nests file (Schedule fault) = omega arith
 fault_nests file (Script fault) = omega arith
 fault_nests file Unreadable = omega arith
 
-name_nests : {A : Type 0} (name : Option (String A)) → depth (name_json name) ≤ 0
+pub name_nests : {A : Type 0} (name : Option (String A)) → depth (name_json name) ≤ 0
 name_nests None = omega arith
 name_nests (Some name) = omega arith
 
@@ -65,7 +65,7 @@ pub refusal_nests : (file : List ℕ) (refusal : Refusal)
     → depth (refusal_json file refusal) ≤ max_depth
 refusal_nests file refusal = omega arith
 
-number_nests : (n : Option ℕ) → depth (number_json n) ≤ 0
+pub number_nests : (n : Option ℕ) → depth (number_json n) ≤ 0
 number_nests None = omega arith
 number_nests (Some n) = omega arith
 

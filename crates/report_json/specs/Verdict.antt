@@ -1,6 +1,6 @@
 -- The objects of the verdict on the set of a file: the data of the lines of `report.specs.Verdict`.
 use Rattle.std.specs.Prelude.{ℕ, List, [], ◌∷◌, codes, decimal, string_bytes, Option, None, Some, String}
-use Rattle.json.specs.Json.{Json, null, number, string, array, object, Items, no_items, item, no_members, member}
+use Rattle.json.specs.Json.{Json, null, number, string, array, object, Items, no_items, item, Members, no_members, member}
 use Rattle.model.specs.declared.abs.Refusal.{Refusal}
 use Rattle.model.specs.Words.{rule_word, sort_text}
 use Rattle.report.specs.Rule.{rule_name}
@@ -40,16 +40,21 @@ acceptance_json file routines =
     (member (codes "routines") (array (routines_json routines))
     no_members))))
 
--- a refused set: the rule that it breaks first, and where
+-- the rule that a set breaks first, and where, before other members
+abbrev pub place_before : Refusal → Members → Members
+place_before refusal members =
+    member (codes "rule") (string (rule_word refusal.rule))
+    (member (codes "rule_name") (string (rule_name refusal.rule))
+    (member (codes "driver") (number (decimal refusal.driver))
+    (member (codes "routine") (number (decimal refusal.routine))
+    (member (codes "position") (number (decimal refusal.at))
+    members))))
+
+-- a refused set
 abbrev pub refusal_json : List ℕ → Refusal → Json
 refusal_json file refusal =
     object
     (member (codes "format") (string verdict_format)
     (member (codes "file") (string file)
     (member (codes "verdict") (string (codes "refused"))
-    (member (codes "rule") (string (rule_word refusal.rule))
-    (member (codes "rule_name") (string (rule_name refusal.rule))
-    (member (codes "driver") (number (decimal refusal.driver))
-    (member (codes "routine") (number (decimal refusal.routine))
-    (member (codes "position") (number (decimal refusal.at))
-    no_members))))))))
+    (place_before refusal no_members))))

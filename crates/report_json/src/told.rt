@@ -56,7 +56,7 @@ impl ToJson for ToldEvent<'_> {
 }
 
 /// Adds a member that is a number which there may be.
-fn put_optional(out: &mut Writer, name: &str, number: Option<u64>) -> Result<(), AllocError>
+pub fn put_optional(out: &mut Writer, name: &str, number: Option<u64>) -> Result<(), AllocError>
     ensures before { out.new.before ≡ out.old.before }
     ensures tokens { OnOk result (out.new.tokens
         ≡ out.old.tokens ++ key name.now ∷ json_tokens (number_json number)) }

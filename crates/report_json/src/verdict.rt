@@ -1,7 +1,7 @@
 //! The verdict on the set of a file.
 
-ghost use Rattle.std.specs.Prelude.{◌≡◌, ◌++◌, ◌∷◌, [], OnOk, codes};
-ghost use Rattle.json.specs.Token.{key, string};
+ghost use Rattle.std.specs.Prelude.{◌≡◌, ◌++◌, ◌∷◌, [], OnOk, codes, decimal};
+ghost use Rattle.json.specs.Token.{key, number, string};
 ghost use Rattle.json.specs.Tree.{items_tokens, json_tokens};
 ghost use Rattle.model.specs.Words.{rule_word};
 ghost use Rattle.report.specs.Rule.{rule_name};
@@ -81,11 +81,7 @@ fn write_routine(out: &mut Writer, routine: &CertifiedRoutine) -> Result<(), All
 }
 
 /// Adds a member that is a name which there may be.
-pub(crate) fn put_name(
-    out: &mut Writer,
-    member: &str,
-    name: &Option<String>,
-) -> Result<(), AllocError>
+pub fn put_name(out: &mut Writer, member: &str, name: &Option<String>) -> Result<(), AllocError>
     ensures before { out.new.before ≡ out.old.before }
     ensures tokens { OnOk result (out.new.tokens
         ≡ out.old.tokens ++ key member.now ∷ json_tokens (name_json name.now)) }
@@ -111,26 +107,33 @@ impl ToJson for FileRefusal<'_> {
     ghost json = { λ told. refusal_json told.file.now told.refusal };
 
     fn write(&self, out: &mut Writer) -> Result<(), AllocError> {
-        let Refusal {
-            driver,
-            routine,
-            at,
-            rule,
-        } = self.refusal;
         begin(out, FORMAT, self.file)?;
         put_text(out, "verdict", "refused")?;
-        put_rule(out, rule)?;
-        put_number(out, "driver", driver as u64)?;
-        put_number(out, "routine", routine as u64)?;
-        put_number(out, "position", at as u64)?;
+        put_place(out, self.refusal)?;
         out.end_object()
     }
 
     ghost nests = { λ told. refusal_nests told.file.now told.refusal };
 }
 
+/// Adds a rule, and the place where it is broken, by numbers.
+pub fn put_place(out: &mut Writer, refusal: Refusal) -> Result<(), AllocError>
+    ensures before { out.new.before ≡ out.old.before }
+    ensures tokens { OnOk result (out.new.tokens ≡ out.old.tokens ++ key (codes "rule")
+        ∷ string (rule_word refusal.rule) ∷ key (codes "rule_name")
+        ∷ string (rule_name refusal.rule) ∷ key (codes "driver")
+        ∷ number (decimal refusal.driver) ∷ key (codes "routine")
+        ∷ number (decimal refusal.routine) ∷ key (codes "position")
+        ∷ number (decimal refusal.at) ∷ []) }
+{
+    put_rule(out, refusal.rule)?;
+    put_number(out, "driver", refusal.driver as u64)?;
+    put_number(out, "routine", refusal.routine as u64)?;
+    put_number(out, "position", refusal.at as u64)
+}
+
 /// Adds a rule by its number, as `V1`, and by its name.
-pub fn put_rule(out: &mut Writer, rule: Rule) -> Result<(), AllocError>
+fn put_rule(out: &mut Writer, rule: Rule) -> Result<(), AllocError>
     ensures before { out.new.before ≡ out.old.before }
     ensures tokens { OnOk result (out.new.tokens ≡ out.old.tokens ++ key (codes "rule")
         ∷ string (rule_word rule) ∷ key (codes "rule_name") ∷ string (rule_name rule) ∷ []) }

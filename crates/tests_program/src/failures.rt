@@ -382,7 +382,13 @@ fn answer<R: Threads + Wait + Sync>(
     match case.job {
         Job::Check => check(alloc, set, out, err),
         Job::Explain(extent) => explain(alloc, extent, set, out, err),
-        Job::List => deliver(&Unjudged { job: Listing }, alloc, "", set, out, err),
+        Job::List => {
+            let listed = Unjudged {
+                job: Listing,
+                form: Text,
+            };
+            deliver(&listed, alloc, "", set, out, err)
+        }
         Job::Rewrite => rewrite(alloc, set, out, err),
         Job::Trace(schedule, verification) => {
             let mut schedule = Slow::new(schedule, devices.step, devices.orders);

@@ -5,8 +5,5 @@ pub returns-clause-tokens : goal.returns-clause-tokens
 returns-clause-tokens c =
     let t = c.args.out.now.tokens in
     let a = more t _ _ _ _ c.in_ok-begin.ensures.tokens c.in_ok-put_text.ensures.tokens in
-    let b = more t _ _ _ _ a c.in_ok-put_rule.ensures.tokens in
-    let d = more t _ _ _ _ b c.in_ok-put_number.ensures.tokens in
-    let e = more t _ _ _ _ d c.in_ok-put_number-2.ensures.tokens in
-    let f = more t _ _ _ _ e c.in_ok-put_number-3.ensures.tokens in
-    last _ t _ _ _ _ f c.end_object.ensures.ok
+    let b = more t _ _ _ _ a c.in_ok-put_place.ensures.tokens in
+    last _ t _ _ _ _ b c.end_object.ensures.ok

@@ -1,0 +1,9 @@
+use Rattle.report_json.proofs.Steps.{last, more}
+use Rattle.answer_mends.proofs.as_json.NothingToJson.write.Goals as goal
+
+pub returns-clause-tokens : goal.returns-clause-tokens
+returns-clause-tokens c =
+    let t = c.args.out.now.tokens in
+    let a = more t _ _ _ _ c.in_ok-begin.ensures.tokens c.in_ok-put_number.ensures.tokens in
+    let b = more t _ _ _ _ a c.in_ok-put_text.ensures.tokens in
+    last _ t _ _ _ _ b c.end_object.ensures.ok
