@@ -8,8 +8,7 @@ ghost use Rattle.drvhost_words.specs.Program.{IsPage, IsQuietly};
 ghost use Rattle.drvhost_words.specs.Program.{IsRunBy, IsTaskOf, IsUnopenedBy, JobEnds, JobStores};
 ghost use Rattle.drvhost_words.specs.Program.{MendsFile, OpensToTrace, PathsEnd, ProgramEnds};
 ghost use Rattle.drvhost_words.specs.Program.{ProgramStores, RewritesFile, WordsEnd, WordsStore};
-ghost use Rattle.drvhost_words.specs.Program.{asked_by, form_of_task, form_of_work};
-ghost use Rattle.drvhost_words.specs.Program.{settled_judging, verification_of};
+ghost use Rattle.drvhost_words.specs.Program.{asked_by, settled_judging, verification_of};
 ghost use Rattle.drvhost_many.specs.All.{Counted};
 ghost use Rattle.drvhost_words.specs.Devices.{CountedOver};
 ghost use Rattle.drvhost_tests.specs.Told.{asked_of};
@@ -27,7 +26,7 @@ use crate::returned::close_both;
 use crate::serving::host_files;
 use crate::telling::{Shown, tell_shown};
 use crate::unread::{tell_if_unread, tell_which_unread};
-use crate::work::Work;
+use crate::work::{Work, form_of_work};
 use answer::as_json::Json;
 use answer::as_text::Text;
 use answer::check::Judgement;
@@ -59,7 +58,7 @@ use drvhost_devices::unopened::tell_unopened;
 use drvhost_files::files::{Files, Later, Pending};
 use drvhost_files::sought::{Search, Sought};
 use drvhost_formats::trace::{Asked, trace_json};
-use drvhost_many::file::{self, judge};
+use drvhost_many::file::judge;
 use drvhost_many::judging::JudgedFiles;
 use drvhost_many::many::{Sets, answer_each};
 use drvhost_many::paths::{alone, find_all};
@@ -446,32 +445,6 @@ fn refuse_unopened<O: Sink, E: Sink>(
     match form_of_work(work) {
         job::Form::Lines => tell_unopened(name, err),
         job::Form::Json => write_answer(Json.unopened(alloc, name), out, err),
-    }
-}
-
-/// The form of what some work answers.
-fn form_of_work(work: Work) -> job::Form
-    ensures { result ≡ form_of_work work }
-{
-    match work {
-        Work::Judge(judging) => {
-            if file::is_in_json(judging) {
-                job::Form::Json
-            } else {
-                job::Form::Lines
-            }
-        }
-        Work::Do(task) => form_of_task(task),
-    }
-}
-
-/// The form of what a task answers.
-fn form_of_task(task: Task) -> job::Form
-    ensures { result ≡ form_of_task task }
-{
-    match task {
-        Task::Mend(_, form) | Task::Hunt(_, form) | Task::HuntExactly(_, form) => form,
-        Task::List | Task::Find(_) | Task::FindExactly(_) => job::Form::Lines,
     }
 }
 
