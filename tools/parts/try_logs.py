@@ -8,7 +8,8 @@ docs/schemas/log.json and the standard's classes it looks whether each region is
 holds a line of it, whether a result of `explain` is that of `check` with more behind its message,
 whether a path ends where its result is, whether `--pass` adds results of accepted sets alone, and
 whether `check` accepts what each fix makes of its file, or finds its first fault in a later routine.
-The edits that `explain --format json` tells have to be the same.
+A fix may not reach behind the end of its file, and has to make of it what the edits make of it that
+`explain --format json` tells, but for the line feed at its end.
 
 It needs, on Debian, `python3-jsonschema` and `python3-sarif-python-om`."""
 
@@ -24,6 +25,19 @@ from jsonschema import Draft202012Validator
 
 import sarif_standard
 
+# A set that is mended in its last line.
+STACK = b"""driver disk
+endd
+driver filter
+dispatch READ f
+routine f dispatch
+call r0
+ret lower r0
+endr
+endd
+device low disk 1
+device up filter 1 low
+"""
 TOP = os.path.dirname(os.path.dirname(os.path.dirname(os.path.abspath(__file__))))
 
 
@@ -51,17 +65,28 @@ def place_of(location):
     return physical["artifactLocation"]["uri"], region and region["startLine"]
 
 
+def text_of(name):
+    """The text of the file that a URI names."""
+    path = os.path.join(os.fsencode(TOP), urllib.parse.unquote_to_bytes(name))
+    with open(path, encoding="utf-8", newline="") as file:
+        return file.read()
+
+
+def units_of(text):
+    """How many units of UTF-16 a text has."""
+    return len(text.encode("utf-16-le")) // 2
+
+
 def region_faults(location):
     """Whether a region is a line of its file from its first byte that is no blank to its end."""
     physical = location["physicalLocation"]
     if "region" not in physical:
         return
     region = physical["region"]
-    name = urllib.parse.unquote_to_bytes(physical["artifactLocation"]["uri"])
-    with open(os.path.join(os.fsencode(TOP), name), encoding="utf-8") as file:
-        line = file.read().split("\n")[region["startLine"] - 1]
+    line = text_of(physical["artifactLocation"]["uri"]).split("\n")[region["startLine"] - 1]
+    line = line.removesuffix("\r")
     start = 1 + len(line) - len(line.lstrip("\t\r "))
-    end = 1 + len(line.encode("utf-16-le")) // 2
+    end = 1 + units_of(line)
     if (region["startColumn"], region["endColumn"]) != (start, end):
         yield f"{region} isn't {start} to {end}, of {line!r}"
     if region["endLine"] != region["startLine"]:
@@ -92,13 +117,24 @@ def key_of(result):
     )
 
 
-def edits_of(result):
-    """The edits of lines that a result has, as objects of `explain --format json` have them."""
-    for fix in result["fixes"]:
-        for each in fix["artifactChanges"][0]["replacements"]:
-            region = each["deletedRegion"]
-            text = each["insertedContent"]["text"]
-            yield {"start": region["startLine"], "end": region["endLine"], "text": text}
+def index_of(text, line, column):
+    """Where a place of a text is, if there is such a place."""
+    lines = text.split("\n")
+    if line > len(lines) or column > 1 + units_of(lines[line - 1]):
+        raise ValueError(f"the text has no place {line}:{column}")
+    before = lines[line - 1].encode("utf-16-le")[: 2 * (column - 1)].decode("utf-16-le")
+    return sum(len(each) + 1 for each in lines[: line - 1]) + len(before)
+
+
+def fixed(text, fix):
+    """What a fix makes of a text."""
+    made, passed = "", 0
+    for each in fix["artifactChanges"][0]["replacements"]:
+        region = each["deletedRegion"]
+        start = index_of(text, region["startLine"], region["startColumn"])
+        made += text[passed:start] + each["insertedContent"]["text"]
+        passed = index_of(text, region["endLine"], region["endColumn"])
+    return made + text[passed:]
 
 
 def edited(text, edits):
@@ -119,14 +155,15 @@ def place_in(result):
 
 def fix_faults(program, result):
     """What is wrong with the fix of a result: `check` refuses what it makes no later."""
-    edits = list(edits_of(result))
-    if not edits:
+    uri = place_of(result["locations"][0])[0]
+    name, text = urllib.parse.unquote(uri), text_of(uri)
+    try:
+        made = fixed(text, result["fixes"][0])
+    except ValueError as fault:
+        yield f"of the fix of {name} {fault}"
         return
-    name = urllib.parse.unquote(place_of(result["locations"][0])[0])
-    with open(os.path.join(TOP, name), encoding="utf-8") as file:
-        text = edited(file.read(), edits)
-    with tempfile.NamedTemporaryFile("w", suffix=".drv", encoding="utf-8") as file:
-        file.write(text)
+    with tempfile.NamedTemporaryFile("w", suffix=".drv", encoding="utf-8", newline="") as file:
+        file.write(made)
         file.flush()
         left = results_of(log_of(program, ["check", file.name, "--format", "sarif"]))
     if left and (left[0]["ruleId"][0] != "V" or place_in(left[0]) <= place_in(result)):
@@ -134,7 +171,8 @@ def fix_faults(program, result):
     told = subprocess.run(
         [program, "explain", name, "--format", "json"], capture_output=True, cwd=TOP, check=False
     )
-    if json.loads(told.stdout.splitlines()[0])["edits"] != edits:
+    edits = json.loads(told.stdout.splitlines()[0])["edits"]
+    if made.removesuffix("\n") != edited(text, edits).removesuffix("\n"):
         yield f"JSON has other edits of {name}"
 
 
@@ -162,15 +200,30 @@ def faults_in(check, log):
 
 def odd_files(program, folder):
     """Files whose results have no line: an image that is named as a text, an empty text, an image
-    that ends early."""
+    that ends early. Then texts with odd lines or names: lines that end with CR and LF, something left
+    open, no last line feed, marks of placeholders and links, slashes that stand together."""
     image = os.path.join(folder, "image.drv")
     subprocess.run([program, "rewrite", "examples/twice.drv", image], cwd=TOP, check=True)
     yield image
-    for name, content in ("empty.drv", b""), ("cut.image", b"DRVS"):
+    with open(os.path.join(TOP, "examples/twice.drv"), "rb") as file:
+        twice = file.read()
+    for name, content in (
+        ("empty.drv", b""),
+        ("cut.image", b"DRVS"),
+        ("ends.drv", twice.replace(b"\n", b"\r\n")),
+        ("ended.drv", twice.rstrip(b"\n")),
+        ("last.drv", STACK.rstrip(b"\n")),
+        ("none.drv", b"driver d\nendd"),
+        ("open.drv", b"driver d"),
+        ("opened.drv", b"driver d\n"),
+        ("marks.drv", b"driver d\n[a](1) {0} \\[b\\](2)\nendd\n"),
+        ("a b%5[c]:{d}.drv", twice),
+    ):
         path = os.path.join(folder, name)
         with open(path, "wb") as file:
             file.write(content)
         yield path
+    yield "/" + os.path.join(folder, "", "") + "/ends.drv"
 
 
 def main():
@@ -192,8 +245,8 @@ def try_logs(program, paths):
             wrong += 1
             print(f"{command} {' '.join(flags)}: {fault}")
     faults = list(pair_faults(*(results_of(logs[each, ()]) for each in ("check", "explain"))))
-    fixed = [each for each in results_of(logs["explain", ()]) if each["fixes"]]
-    for each in fixed:
+    mended = [each for each in results_of(logs["explain", ()]) if each["fixes"]]
+    for each in mended:
         faults += fix_faults(program, each)
     for command in "check", "explain":
         more = [each for each in results_of(logs[command, ("--pass",)]) if each["kind"] == "fail"]
@@ -203,7 +256,7 @@ def try_logs(program, paths):
         print(fault)
     count = sum(len(results_of(log)) for log in logs.values())
     wrong += len(faults)
-    print(f"{len(logs)} logs tried, {count} results, {len(fixed)} fixes, {wrong} faults")
+    print(f"{len(logs)} logs tried, {count} results, {len(mended)} fixes, {wrong} faults")
     return wrong > 0 or count == 0
 
 

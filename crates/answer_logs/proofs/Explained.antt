@@ -10,6 +10,7 @@ use Rattle.report_sarif.specs.declared.log.Finding.{Finding}
 use Rattle.verifier_words.specs.declared.telling.Told.{Told}
 use Rattle.verifier_words.specs.Faults.{AreFaults, refusals}
 use Rattle.drvhost_evidence.specs.declared.shown.Shown.{Shown}
+use Rattle.drvhost_evidence.specs.Regions.{text_end}
 use Rattle.drvhost_evidence.specs.Shown.{IsShown}
 use Rattle.drvhost_evidence.proofs.EachFault.{past_told, told_at, within_told}
 use Rattle.answer_mends.specs.Fix.{IsFix}
@@ -69,9 +70,9 @@ pub shown_explained : {E : Type 0} (r : Result Finding E) (name bytes : List ℕ
     → IfOk r (λ finding. string_bytes finding.message ≡ refusal_words refusal ++ 10 ∷ words)
     → IfOk r (λ finding. finding.path.items ≡ shown.path.items)
     → IfOk r (λ finding. finding.other.items ≡ shown.other.items)
-    → IfOk r (λ finding. finding.fix ≡ fix)
+    → IfOk r (λ finding. finding.fix ≡ fix) → IfOk r (λ finding. finding.end ≡ text_end bytes)
     → IfOk r (IsExplained name bytes set refusal)
-shown_explained (Ok finding) name bytes set refusal shown words fix (evidence, shows, it) so is told path other whole =
+shown_explained (Ok finding) name bytes set refusal shown words fix (evidence, shows, it) so is told path other whole ends =
     record {
       result = is;
       words = words;
@@ -81,6 +82,7 @@ shown_explained (Ok finding) name bytes set refusal shown words fix (evidence, s
       path = rw path it.path;
       other = rw other it.other;
       fixed = rw whole so;
+      ends = ends;
     }
-shown_explained (Err e) name bytes set refusal shown words fix shows so is told path other whole =
+shown_explained (Err e) name bytes set refusal shown words fix shows so is told path other whole ends =
     tt

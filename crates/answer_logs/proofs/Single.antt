@@ -12,7 +12,7 @@ use Rattle.drvhost_devices.specs.declared.logging.Account.TheVariants.{Verdict, 
 use Rattle.drvhost_devices.specs.declared.logging.Passes.{Passes}
 use Rattle.drvhost_devices.specs.declared.logging.Passes.TheVariants.{Listed}
 use Rattle.report.specs.Fault.{text_kind_name}
-use Rattle.drvhost_evidence.specs.Regions.{region_at}
+use Rattle.drvhost_evidence.specs.Regions.{fault_region}
 use Rattle.answer_logs.specs.declared.found.Found.{Found}
 use Rattle.answer_logs.specs.Found.{AreExplained, AreTold, IsFault, IsFaultFound, IsPass, IsPassed, IsRefusalFound, IsSaid, IsTextFaultFound}
 
@@ -34,7 +34,7 @@ fault_found (Err e) name kind said place finding fault status one = tt
 -- the fault of a text is told, with what is said of it
 pub text_told : {E : Type 0} (r : Result Found E) (account : Account) (name bytes said : List ℕ)
     (fault : AsmFault) → IsSaid account said
-    → IfOk r (IsFaultFound name (text_kind_name fault.kind) said (region_at bytes fault.line))
+    → IfOk r (IsFaultFound name (text_kind_name fault.kind) said (fault_region bytes fault.line))
     → IfOk r (IsTextFaultFound account name bytes fault)
 text_told (Ok found) account name bytes said fault is told = (said, is, told)
 text_told (Err e) account name bytes said fault is told = tt

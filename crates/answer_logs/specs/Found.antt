@@ -18,7 +18,7 @@ use Rattle.verifier_evidence.specs.Evidence.{IsEvidence}
 use Rattle.verifier_words.specs.Faults.{AreFaults}
 use Rattle.drvhost_devices.specs.Answer.{FileSays}
 use Rattle.drvhost_devices.specs.Device.{Holds, Supply}
-use Rattle.drvhost_evidence.specs.Regions.{refusal_region, region_at}
+use Rattle.drvhost_evidence.specs.Regions.{fault_region, refusal_region, text_end}
 use Rattle.drvhost_evidence.specs.Shown.{AreStepsOf, other_path, path_of, refused_lines}
 use Rattle.answer_mends.specs.Fix.{IsFix}
 use Rattle.drvhost_devices.specs.declared.extent.Extent.{Extent}
@@ -101,6 +101,7 @@ pub record IsExplained (name bytes : List ℕ) (set : Set) (refusal : Refusal) (
   pub other : AreStepsOf bytes (refused_lines bytes refusal) finding.other.items
       (other_path evidence)
   pub fixed : IsFix refusal bytes finding.fix
+  pub ends : finding.end ≡ text_end bytes
 
 -- the refusals that are explained of a refused set: its first fault, or that of each routine
 abbrev pub AreAsked : Extent → Set → Refusal → List Refusal → Type 0
@@ -151,7 +152,7 @@ pub record IsFaultFound (name kind said : List ℕ) (region : Option Region) (fo
 abbrev pub IsTextFaultFound : Account → List ℕ → List ℕ → AsmFault → Found → Type 0
 IsTextFaultFound account name bytes fault found =
     (said : List ℕ) × IsSaid account said
-    × IsFaultFound name (text_kind_name fault.kind) said (region_at bytes fault.line) found
+    × IsFaultFound name (text_kind_name fault.kind) said (fault_region bytes fault.line) found
 
 -- what is found in the bytes of the file of a name: in the set that they are; or their first fault,
 -- at its line in a text, and with no place in an image

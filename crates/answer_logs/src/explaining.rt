@@ -7,14 +7,16 @@ ghost use Rattle.model.specs.declared.abs.Refusal.{Refusal as RefusalValue};
 ghost use Rattle.model.specs.Typable.{IsFirstFault};
 ghost use Rattle.verifier_words.specs.Faults.{AreFaults};
 ghost use Rattle.drvhost_evidence.specs.Faults.{IsFaultOf};
+ghost use Rattle.drvhost_evidence.specs.Regions.{text_end};
 ghost use Rattle.answer_logs.specs.Found.{AreExplained, IsExplained, IsRefusal, refusal_words};
 
 use crate::finding::{ReadFile, of_refusal};
 use crate::found::only;
+use answer::origin::origin_of;
 use answer_explain::advising::Advisor;
-use answer_explain::explaining::origin_of;
 use answer_mends::fixing::fix_by;
 use drvhost_devices::extent::Extent;
+use drvhost_evidence::region::text_end;
 use drvhost_evidence::shown::{Shown, show_fault};
 use image::DriverSet;
 use mend_edits::LineEdit;
@@ -111,6 +113,7 @@ fn of_shown(
     ensures path { IfOk result (λ finding. finding.path.items ≡ shown.path.items) }
     ensures other { IfOk result (λ finding. finding.other.items ≡ shown.other.items) }
     ensures fix { IfOk result (λ finding. finding.fix ≡ fix) }
+    ensures end { IfOk result (λ finding. finding.end ≡ text_end file.entry.bytes.now) }
 {
     let Shown { path, other, .. } = shown;
     let mut finding = of_refusal(alloc, file, refusal)?;
@@ -119,5 +122,6 @@ fn of_shown(
     finding.path = path;
     finding.other = other;
     finding.fix = fix;
+    finding.end = text_end(file.bytes);
     Ok(finding)
 }

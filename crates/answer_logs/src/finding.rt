@@ -18,17 +18,20 @@ use asm_faults::fault_words;
 use drvhost_devices::fault::Fault;
 use drvhost_devices::logging::{Account, Logging, Passes};
 use drvhost_devices::reading::set_of;
-use drvhost_evidence::region::{refusal_region, region_at};
+use drvhost_evidence::region::{fault_region, refusal_region};
 use image::DriverSet;
 use model::abs::{Refusal, Rule};
 use model::items::Items;
 use report::fault::{image_fault_name, text_kind_name};
-use report_sarif::log::{Finding, Kind, Region};
+use report_sarif::log::{Finding, Kind, Place, Region};
 use std::alloc::{AllocError, Global};
 use verifier::verify;
 
 /// The word under which an accepted set stands.
 pub(crate) const ACCEPTED: &str = "Accepted";
+
+/// Where an empty text ends, and each other begins.
+const START: Place = Place { line: 1, column: 1 };
 
 /// A file that was read: its name, and its bytes.
 #[derive(Clone, Copy)]
@@ -95,6 +98,7 @@ fn of_pass(alloc: Global, name: &str) -> Result<Finding, AllocError>
         path: Vec::new(alloc),
         other: Vec::new(alloc),
         fix: Items::of(Vec::new(alloc)),
+        end: START,
         fingerprint: texts.copy(ACCEPTED),
     };
     texts.finish(finding)
@@ -163,6 +167,7 @@ pub(crate) fn of_refusal(
         path: Vec::new(alloc),
         other: Vec::new(alloc),
         fix: Items::of(Vec::new(alloc)),
+        end: START,
         fingerprint: texts.made(place_print(alloc, refusal)),
     };
     texts.finish(finding)
@@ -219,7 +224,7 @@ fn text_fault_in(
         (IsTextFaultFound account file.entry.name.now file.entry.bytes.now fault) }
 {
     let said = said_of(alloc, account, file.bytes, fault)?;
-    let region = region_at(file.bytes, fault.line);
+    let region = fault_region(file.bytes, fault.line);
     fault_in(
         alloc,
         file.name,
@@ -284,6 +289,7 @@ fn of_fault(
         path: Vec::new(alloc),
         other: Vec::new(alloc),
         fix: Items::of(Vec::new(alloc)),
+        end: START,
         fingerprint: texts.copy(kind),
     };
     texts.finish(finding)

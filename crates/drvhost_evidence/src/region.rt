@@ -3,13 +3,16 @@
 ghost use Rattle.std.specs.Prelude.{◌≡◌, ◌-◌, ◌≤◌, ◌<◌, ◌^◌, All, IfOk, length, slice_get};
 ghost use Rattle.std.specs.Option.{option_and_then};
 ghost use Rattle.text.specs.Places.{IsIn, numbers};
-ghost use Rattle.drvhost_evidence.specs.Regions.{indent, position_lines, refusal_region, region_at};
-ghost use Rattle.drvhost_evidence.specs.Regions.{region_on, units, units_of_byte};
+ghost use Rattle.text.specs.Cut.{lines_of};
+ghost use Rattle.drvhost_evidence.specs.Regions.{ends_with_cr, fault_region, indent, is_cr, passed};
+ghost use Rattle.drvhost_evidence.specs.Regions.{position_lines, refusal_region, region_at};
+ghost use Rattle.drvhost_evidence.specs.Regions.{region_of, region_on, text_end, units};
+ghost use Rattle.drvhost_evidence.specs.Regions.{units_of_byte, without_cr};
 
 use asm_places::routine_source;
 use drvhost_devices::reading::begins_image;
 use model::abs::Refusal;
-use report_sarif::log::Region;
+use report_sarif::log::{Place, Region};
 use std::alloc::{AllocError, Global};
 use text::cut::Lines;
 use text::{Spots, line_at};
@@ -62,8 +65,30 @@ pub(crate) fn region_by(bytes: &[u8], lines: &Spots, at: u16) -> Option<Region>
     Some(region_on(spot.number, raw))
 }
 
+/// Where a fault of a text is that is told of the line of a number: one that is told of the line
+/// behind the last, as that something was left open, is on the last. A text without a line has no
+/// place for one.
+pub fn fault_region(text: &[u8], number: u64) -> Option<Region>
+    ensures { result ≡ fault_region text.now number }
+{
+    let count = count_lines(text);
+    region_at(text, number.min(count))
+}
+
+/// How many lines a text has.
+fn count_lines(text: &[u8]) -> u64
+    ensures { result ≡ length (lines_of text.now) }
+{
+    let mut left = Lines::of(text);
+    let mut count = 0;
+    while let Some(_line) = left.next() {
+        count += 1;
+    }
+    count
+}
+
 /// Where the line of a number stands in a text, if there is one.
-pub fn region_at(text: &[u8], number: u64) -> Option<Region>
+pub(crate) fn region_at(text: &[u8], number: u64) -> Option<Region>
     ensures { result ≡ region_at text.now number }
 {
     let mut left = Lines::of(text);
@@ -74,14 +99,77 @@ pub fn region_at(text: &[u8], number: u64) -> Option<Region>
     Some(region_on(number, raw))
 }
 
-/// A line of a number from its first byte that is no blank to its end.
+/// A line of a number from its first byte that is no blank to its end (3.30), of which the CR
+/// before its LF is a part.
 fn region_on(number: u64, raw: &[u8]) -> Region
     ensures { result ≡ region_on number raw.now }
 {
+    region_of(number, without_cr(raw))
+}
+
+/// The same of a line without its end.
+fn region_of(number: u64, line: &[u8]) -> Region
+    ensures { result ≡ region_of number line.now }
+{
     Region {
         line: number,
-        start: 1 + indent(raw),
-        end: 1 + units(raw),
+        start: 1 + indent(line),
+        end: 1 + units(line),
+    }
+}
+
+/// A line without the CR before its LF.
+fn without_cr(raw: &[u8]) -> &[u8]
+    ensures { result.now ≡ without_cr raw.now }
+{
+    if !ends_with_cr(raw) {
+        return raw;
+    }
+    &raw[..raw.len().saturating_sub(1)]
+}
+
+/// Whether a line ends with CR.
+fn ends_with_cr(raw: &[u8]) -> bool
+    ensures { result ≡ ends_with_cr raw.now }
+{
+    is_cr(raw.last().copied())
+}
+
+/// Whether a byte is there, and is CR.
+fn is_cr(byte: Option<u8>) -> bool
+    ensures { result ≡ is_cr byte }
+{
+    match byte {
+        Some(byte) => byte == b'\r',
+        None => false,
+    }
+}
+
+/// Where a text ends: on the line behind its last LF, behind all that stands there.
+pub fn text_end(text: &[u8]) -> Place
+    ensures { result ≡ text_end text.now }
+{
+    let mut end = Place { line: 1, column: 1 };
+    for byte in text {
+        end = passed(*byte, end);
+    }
+    end
+}
+
+/// The place behind a byte of a text.
+fn passed(byte: u8, place: Place) -> Place
+    requires few { (place.line < 2 ^ 64 - 1) × (place.column < 2 ^ 64 - 2) }
+    ensures { result ≡ passed byte place }
+{
+    if byte == b'\n' {
+        return Place {
+            line: place.line + 1,
+            column: 1,
+        };
+    }
+    Place {
+        line: place.line,
+        column: place.column + units_of_byte(byte),
     }
 }
 

@@ -1,16 +1,17 @@
 -- The text of a log: how deep it nests, and that no number in it is a float.
-use Rattle.std.proofs.Common.{◌≡◌, ◌≤◌, ◌++◌, ℕ, List, [], ◌∷◌, map, Option, None, Some, IfOk, Result, Ok, Err, String, false, refl, arith, string_bytes, subst}
+use Rattle.std.proofs.Common.{◌≡◌, ◌≤◌, ◌++◌, ℕ, List, [], ◌∷◌, map, Option, None, Some, position, IfOk, Result, Ok, Err, String, false, refl, arith, string_bytes, subst}
 use Rattle.std.specs.Global.{Global}
-use Rattle.serde_json.specs.Data.{Data, depth, items_depth}
+use Rattle.serde_json.specs.Data.{Data, depth, items_depth, members_depth}
 use Rattle.serde_json.specs.Read.{max_depth, read}
 use Rattle.serde_json.specs.View.{items_of}
-use Rattle.serde_json.specs.Written.{compact_text, has_float, items_have_float}
+use Rattle.serde_json.specs.Written.{compact_text, has_float, items_have_float, members_have_float}
 use Rattle.mend_edits.specs.declared.lines.LineEdit.{LineEdit}
 use Rattle.report_sarif.specs.declared.log.Finding.{Finding}
+use Rattle.report_sarif.specs.declared.log.Place.{Place}
 use Rattle.report_sarif.specs.declared.log.Region.{Region}
 use Rattle.report_sarif.specs.declared.log.RuleText.{RuleText}
 use Rattle.report_sarif.specs.declared.log.Step.{Step}
-use Rattle.report_sarif.specs.Log.{fixes_data, fixes_of, flows_data, log_data, physical_data, replacement_data, result_data, rule_data, step_data, steps_flows}
+use Rattle.report_sarif.specs.Log.{fixes_data, fixes_of, flows_data, has_id, log_data, physical_data, replacement_data, result_data, result_under, rule_data, rule_members, step_data, steps_flows}
 
 rules_shallow : (rules : List RuleText) → items_depth (items_of (map rule_data rules)) ≤ 2
 rules_shallow [] = omega arith
@@ -45,34 +46,44 @@ flows_shallow finding =
     behind_shallow file finding.path.items (steps_flows file finding.other.items)
     (alone_shallow file finding.other.items)
 
-replacements_shallow : (all : List LineEdit)
-    → items_depth (items_of (map replacement_data all)) ≤ 2
-replacements_shallow [] = omega arith
-replacements_shallow (one ∷ all) = omega (arith, replacements_shallow all)
+replacements_shallow : (end : Place) (all : List LineEdit)
+    → items_depth (items_of (map (replacement_data end) all)) ≤ 2
+replacements_shallow end [] = omega arith
+replacements_shallow end (one ∷ all) = omega (arith, replacements_shallow end all)
 
-fix_shallow : (file : List ℕ) (all : List LineEdit)
-    → items_depth (items_of (fixes_of file all)) ≤ 10
-fix_shallow file [] = omega arith
-fix_shallow file (one ∷ all) = omega (arith, replacements_shallow (one ∷ all))
+fix_shallow : (file : List ℕ) (end : Place) (all : List LineEdit)
+    → items_depth (items_of (fixes_of file end all)) ≤ 10
+fix_shallow file end [] = omega arith
+fix_shallow file end (one ∷ all) = omega (arith, replacements_shallow end (one ∷ all))
 
 fixes_shallow : (finding : Finding) → items_depth (items_of (fixes_data finding)) ≤ 10
-fixes_shallow finding = fix_shallow (string_bytes finding.file) finding.fix
+fixes_shallow finding = fix_shallow (string_bytes finding.file) finding.end finding.fix
 
-results_shallow : (findings : List Finding)
-    → items_depth (items_of (map result_data findings)) ≤ 20
-results_shallow [] = omega arith
-results_shallow (finding ∷ findings) =
+rule_shallow : (id : List ℕ) (place : Option ℕ) → members_depth (rule_members id place) ≤ 1
+rule_shallow id None = omega arith
+rule_shallow id (Some place) = omega arith
+
+result_shallow : (place : Option ℕ) (finding : Finding)
+    → depth (result_under place finding) ≤ 20
+result_shallow place finding =
     omega (
       arith,
       flows_shallow finding,
       fixes_shallow finding,
       physical_shallow (string_bytes finding.file) finding.region,
-      results_shallow findings,
+      rule_shallow (string_bytes finding.rule) place,
     )
+
+results_shallow : (rules : List RuleText) (findings : List Finding)
+    → items_depth (items_of (map (result_data rules) findings)) ≤ 20
+results_shallow rules [] = omega arith
+results_shallow rules (finding ∷ findings) =
+    let place = position (has_id (string_bytes finding.rule)) rules in
+    omega (arith, result_shallow place finding, results_shallow rules findings)
 
 log_shallow : (rules : List RuleText) (findings : List Finding)
     → depth (log_data rules findings) ≤ max_depth
-log_shallow rules findings = omega (arith, rules_shallow rules, results_shallow findings)
+log_shallow rules findings = omega (arith, rules_shallow rules, results_shallow rules findings)
 
 rules_plain : (rules : List RuleText) → items_have_float (items_of (map rule_data rules)) ≡ false
 rules_plain [] = refl
@@ -106,34 +117,45 @@ flows_plain finding =
     behind_plain file finding.path.items (steps_flows file finding.other.items)
     (alone_plain file finding.other.items)
 
-replacements_plain : (all : List LineEdit)
-    → items_have_float (items_of (map replacement_data all)) ≡ false
-replacements_plain [] = refl
-replacements_plain (one ∷ all) = replacements_plain all
+replacements_plain : (end : Place) (all : List LineEdit)
+    → items_have_float (items_of (map (replacement_data end) all)) ≡ false
+replacements_plain end [] = refl
+replacements_plain end (one ∷ all) = replacements_plain end all
 
-fix_plain : (file : List ℕ) (all : List LineEdit)
-    → items_have_float (items_of (fixes_of file all)) ≡ false
-fix_plain file [] = refl
-fix_plain file (one ∷ all) = rw (replacements_plain (one ∷ all)) refl
+fix_plain : (file : List ℕ) (end : Place) (all : List LineEdit)
+    → items_have_float (items_of (fixes_of file end all)) ≡ false
+fix_plain file end [] = refl
+fix_plain file end (one ∷ all) = rw (replacements_plain end (one ∷ all)) refl
 
 fixes_plain : (finding : Finding) → items_have_float (items_of (fixes_data finding)) ≡ false
-fixes_plain finding = fix_plain (string_bytes finding.file) finding.fix
+fixes_plain finding = fix_plain (string_bytes finding.file) finding.end finding.fix
 
-results_plain : (findings : List Finding)
-    → items_have_float (items_of (map result_data findings)) ≡ false
-results_plain [] = refl
-results_plain (finding ∷ findings) =
+rule_plain : (id : List ℕ) (place : Option ℕ)
+    → members_have_float (rule_members id place) ≡ false
+rule_plain id None = refl
+rule_plain id (Some place) = refl
+
+result_plain : (place : Option ℕ) (finding : Finding)
+    → has_float (result_under place finding) ≡ false
+result_plain place finding =
     rw (
       flows_plain finding,
       fixes_plain finding,
       physical_plain (string_bytes finding.file) finding.region,
-      results_plain findings,
+      rule_plain (string_bytes finding.rule) place,
     )
     refl
 
+results_plain : (rules : List RuleText) (findings : List Finding)
+    → items_have_float (items_of (map (result_data rules) findings)) ≡ false
+results_plain rules [] = refl
+results_plain rules (finding ∷ findings) =
+    let place = position (has_id (string_bytes finding.rule)) rules in
+    rw (result_plain place finding, results_plain rules findings) refl
+
 log_plain : (rules : List RuleText) (findings : List Finding)
     → has_float (log_data rules findings) ≡ false
-log_plain rules findings = rw (results_plain findings, rules_plain rules) refl
+log_plain rules findings = rw (results_plain rules findings, rules_plain rules) refl
 
 -- what is written for a value that is a log
 pub written : {E : Type 0} (rules : List RuleText) (findings : List Finding) (value : Data)

@@ -1,22 +1,32 @@
 -- A log of SARIF 2.1.0 (OASIS, Static Analysis Results Interchange Format): the rules, and the
 -- results for files, with the paths that lead to them. Members of objects stand in the order of
 -- their names.
-use Rattle.std.specs.Prelude.{ℕ, ◌++◌, List, [], ◌∷◌, map, codes, decimal, Option, None, Some, string_bytes}
-use Rattle.serde_json.specs.Data.{Data, number, unsigned, string, array, object, no_items, item, member, no_members}
+use Rattle.std.specs.Prelude.{ℕ, ◌++◌, Bool, true, bytes_eq, if◌then◌else◌, List, [], ◌∷◌, map, nat_lt, codes, decimal, Option, None, Some, position, string_bytes}
+use Rattle.serde_json.specs.Data.{Data, Members, boolean, number, unsigned, string, array, object, no_items, item, member, no_members}
 use Rattle.serde_json.specs.View.{items_of}
 use Rattle.mend_edits.specs.declared.lines.LineEdit.{LineEdit}
 use Rattle.report_sarif.specs.declared.log.Finding.{Finding}
 use Rattle.report_sarif.specs.declared.log.Kind.{Kind}
 use Rattle.report_sarif.specs.declared.log.Kind.TheVariants.{Fail, Pass}
+use Rattle.report_sarif.specs.declared.log.Place.{Place}
 use Rattle.report_sarif.specs.declared.log.Region.{Region}
 use Rattle.report_sarif.specs.declared.log.RuleText.{RuleText}
 use Rattle.report_sarif.specs.declared.log.Step.{Step}
-use Rattle.report_sarif.specs.declared.log.TheConstants.{VERSION}
+use Rattle.report_sarif.specs.declared.log.TheConstants.{DOCUMENTS, VERSION}
+use Rattle.report_sarif.specs.declared.message.Form.TheVariants.{Plain}
+use Rattle.report_sarif.specs.Message.{markdown_of, message_of}
 use Rattle.report_sarif.specs.Uri.{uri_of}
 
--- a text (3.11, 3.12)
-abbrev pub text_data : List ℕ → Data
-text_data text = object (member (codes "text") (string text) no_members)
+-- the message that shows a text (3.11), and a page in both forms (3.12)
+abbrev pub message_data : List ℕ → Data
+message_data text = object (member (codes "text") (string (message_of Plain text)) no_members)
+
+abbrev pub help_data : List ℕ → Data
+help_data page =
+    object
+    (member (codes "markdown") (string (markdown_of page))
+    (member (codes "text") (string (message_of Plain page))
+    no_members))
 
 -- the word for whether something is wrong (3.27.9), and its level (3.27.10)
 abbrev pub kind_word : Kind → List ℕ
@@ -35,11 +45,11 @@ abbrev pub rule_data : RuleText → Data
 rule_data words =
     object
     (member (codes "defaultConfiguration") (level_data words.kind)
-    (member (codes "fullDescription") (text_data (string_bytes words.page))
-    (member (codes "help") (text_data (string_bytes words.page))
+    (member (codes "fullDescription") (message_data (string_bytes words.page))
+    (member (codes "help") (help_data (string_bytes words.page))
     (member (codes "id") (string (string_bytes words.id))
     (member (codes "name") (string (string_bytes words.name))
-    (member (codes "shortDescription") (text_data (string_bytes words.name))
+    (member (codes "shortDescription") (message_data (string_bytes words.name))
     no_members))))))
 
 -- a region of a text (3.30): a line, and in it the columns from 1, the end not counted in
@@ -83,7 +93,7 @@ step_data file step =
     object
     (member (codes "location")
     (object
-    (member (codes "message") (text_data (message_at step))
+    (member (codes "message") (message_data (message_at step))
     (member (codes "physicalLocation") (physical_data file step.region)
     no_members)))
     no_members)
@@ -108,84 +118,118 @@ flows_data finding =
     let file = string_bytes finding.file in
     steps_flows file finding.path.items ++ steps_flows file finding.other.items
 
+-- the start of a line of a text that ends at a place: that place, where it ends before the line
+abbrev pub start_of : Place → ℕ → Place
+start_of end line = if nat_lt end.line line then end else record { line = line; column = 1 }
+
 -- lines that are replaced, up to the start of the one behind them (3.57)
-abbrev pub lines_data : LineEdit → Data
-lines_data edit =
+abbrev pub lines_data : Place → LineEdit → Data
+lines_data end edit =
     object
-    (member (codes "endColumn") (number (unsigned 1))
-    (member (codes "endLine") (number (unsigned edit.end))
-    (member (codes "startColumn") (number (unsigned 1))
-    (member (codes "startLine") (number (unsigned edit.start))
+    (member (codes "endColumn") (number (unsigned (start_of end edit.end).column))
+    (member (codes "endLine") (number (unsigned (start_of end edit.end).line))
+    (member (codes "startColumn") (number (unsigned (start_of end edit.start).column))
+    (member (codes "startLine") (number (unsigned (start_of end edit.start).line))
     no_members))))
 
-abbrev pub replacement_data : LineEdit → Data
-replacement_data edit =
+-- what stands there instead (3.3), which is no message; behind a last line without a line feed one
+-- is put first
+abbrev pub inserted : Place → LineEdit → List ℕ
+inserted end edit =
+    if nat_lt end.line edit.start then 10 ∷ string_bytes edit.text else string_bytes edit.text
+
+abbrev pub content_data : List ℕ → Data
+content_data text = object (member (codes "text") (string text) no_members)
+
+abbrev pub replacement_data : Place → LineEdit → Data
+replacement_data end edit =
     object
-    (member (codes "deletedRegion") (lines_data edit)
-    (member (codes "insertedContent") (text_data (string_bytes edit.text))
+    (member (codes "deletedRegion") (lines_data end edit)
+    (member (codes "insertedContent") (content_data (inserted end edit))
     no_members))
 
--- how a file is mended (3.55, 3.56): not, where there are no edits
-abbrev pub change_data : List ℕ → List LineEdit → Data
-change_data file edits =
+-- how a file is mended that ends at a place (3.55, 3.56): not, where there are no edits
+abbrev pub change_data : List ℕ → Place → List LineEdit → Data
+change_data file end edits =
     object
     (member (codes "artifactLocation") (artifact_data file)
-    (member (codes "replacements") (array (items_of (map replacement_data edits)))
+    (member (codes "replacements") (array (items_of (map (replacement_data end) edits)))
     no_members))
 
-abbrev pub fix_data : List ℕ → List LineEdit → Data
-fix_data file edits =
+abbrev pub fix_data : List ℕ → Place → List LineEdit → Data
+fix_data file end edits =
     object
     (member (codes "artifactChanges")
-    (array (item (change_data file edits) no_items))
+    (array (item (change_data file end edits) no_items))
     no_members)
 
-abbrev pub fixes_of : List ℕ → List LineEdit → List Data
-fixes_of file [] = []
-fixes_of file (edit ∷ edits) = fix_data file (edit ∷ edits) ∷ []
+abbrev pub fixes_of : List ℕ → Place → List LineEdit → List Data
+fixes_of file end [] = []
+fixes_of file end (edit ∷ edits) = fix_data file end (edit ∷ edits) ∷ []
 
 abbrev pub fixes_data : Finding → List Data
-fixes_data finding = fixes_of (string_bytes finding.file) finding.fix
+fixes_data finding = fixes_of (string_bytes finding.file) finding.end finding.fix
 
 -- what is equal in two results that are the same, wherever their lines were moved (3.27.17)
 abbrev pub fingerprints_data : List ℕ → Data
 fingerprints_data fingerprint =
     object (member (codes "pafteis/v1") (string fingerprint) no_members)
 
--- a result (3.27)
-abbrev pub result_data : Finding → Data
-result_data finding =
+-- a rule has this id
+abbrev pub has_id : List ℕ → RuleText → Bool
+has_id id words = bytes_eq (string_bytes words.id) id
+
+-- the rule of a result (3.27.5), and its place among the rules, if it is one of them (3.27.6)
+abbrev pub rule_members : List ℕ → Option ℕ → Members
+rule_members id None = member (codes "ruleId") (string id) no_members
+rule_members id (Some place) =
+    member (codes "ruleId") (string id)
+    (member (codes "ruleIndex") (number (unsigned place))
+    no_members)
+
+-- a result (3.27), under the rule of a place
+abbrev pub result_under : Option ℕ → Finding → Data
+result_under place finding =
     object
     (member (codes "codeFlows") (array (items_of (flows_data finding)))
     (member (codes "fixes") (array (items_of (fixes_data finding)))
     (member (codes "kind") (string (kind_word finding.kind))
     (member (codes "level") (string (level_word finding.kind))
     (member (codes "locations") (locations_data finding)
-    (member (codes "message") (text_data (string_bytes finding.message))
+    (member (codes "message") (message_data (string_bytes finding.message))
     (member (codes "partialFingerprints") (fingerprints_data (string_bytes finding.fingerprint))
-    (member (codes "ruleId") (string (string_bytes finding.rule))
-    no_members))))))))
+    (rule_members (string_bytes finding.rule) place))))))))
+
+abbrev pub result_data : List RuleText → Finding → Data
+result_data rules finding =
+    result_under (position (has_id (string_bytes finding.rule)) rules) finding
 
 -- the tool (3.18, 3.19)
 abbrev pub driver_data : List RuleText → Data
 driver_data rules =
     object
+    (member (codes "informationUri") (string DOCUMENTS.now)
     (member (codes "name") (string (codes "drvhost"))
     (member (codes "rules") (array (items_of (map rule_data rules)))
     (member (codes "version") (string VERSION.now)
-    no_members)))
+    no_members))))
 
 abbrev pub tool_data : List RuleText → Data
 tool_data rules = object (member (codes "driver") (driver_data rules) no_members)
+
+-- that it ran to its end (3.20)
+abbrev pub invocation_data : Data
+invocation_data = object (member (codes "executionSuccessful") (boolean true) no_members)
 
 -- its run (3.14)
 abbrev pub run_data : List RuleText → List Finding → Data
 run_data rules findings =
     object
     (member (codes "columnKind") (string (codes "utf16CodeUnits"))
-    (member (codes "results") (array (items_of (map result_data findings)))
+    (member (codes "invocations") (array (item invocation_data no_items))
+    (member (codes "results") (array (items_of (map (result_data rules) findings)))
     (member (codes "tool") (tool_data rules)
-    no_members)))
+    no_members))))
 
 -- the log (3.13)
 abbrev pub log_data : List RuleText → List Finding → Data

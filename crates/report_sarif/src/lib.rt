@@ -4,4 +4,5 @@
 
 mod building;
 pub mod log;
+mod message;
 mod uri;

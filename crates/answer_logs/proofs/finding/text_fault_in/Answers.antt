@@ -6,5 +6,5 @@ pub returns : goal.returns
 returns c =
     text_told _ c.args.account c.args.file.name.now c.args.file.bytes.now
     (string_bytes c.in_ok-said.said) c.args.fault c.in_ok-said.ensures
-    (rw (c.as_str.ensures.value, c.text_kind_name.ensures.name, c.region_at-region.ensures)
+    (rw (c.as_str.ensures.value, c.text_kind_name.ensures.name, c.fault_region-region.ensures)
     at c.fault_in.ensures)

@@ -6,4 +6,4 @@ use Rattle.report_sarif.proofs.log.replacements_value.Given as goal
 abbrev pub invariant-loop-edit : goal.invariant-loop-edit
 invariant-loop-edit l =
     l.list.lacks ≡ false
-    → map view l.list.values.items ≡ map replacement_data (take l.edit-index l.edits)
+    → map view l.list.values.items ≡ map (replacement_data l.end) (take l.edit-index l.edits)

@@ -6,4 +6,4 @@ use Rattle.report_sarif.proofs.log.results_value.Given as goal
 abbrev pub invariant-loop-finding : goal.invariant-loop-finding
 invariant-loop-finding l =
     l.list.lacks ≡ false
-    → map view l.list.values.items ≡ map result_data (take l.finding-index l.findings)
+    → map view l.list.values.items ≡ map (result_data l.rules) (take l.finding-index l.findings)
