@@ -1,10 +1,9 @@
--- What a job on any set answers as text, for what a source has.
-use Rattle.std.proofs.Common.{◌≡◌, ◌⊎◌, ℕ, List, inl, inr, Ok, Err}
+-- What a job on a set answers as text, for what a source has.
+use Rattle.std.proofs.Common.{◌≡◌, ◌⊎◌, ℕ, List, inl, inr, subst, Ok, Err}
 use Rattle.std.specs.Borrow.{Bor}
 use Rattle.model.specs.Set.{Set}
 use Rattle.drvhost_devices.specs.Answer.{Answer, FileSays, IsOfFile, faulty}
 use Rattle.drvhost_devices.specs.Device.{Holds, Supply}
-use Rattle.answer.proofs.Checking.{read_for}
 
 -- what is answered for bytes, where these are the right answers for bytes and the set that they name
 abbrev pub IsText : (List ℕ → Set → Answer → Type 0) → List ℕ → Answer → Type 0
@@ -16,6 +15,16 @@ pub of_file : (Right : List ℕ → Set → Answer → Type 0) (bytes : List ℕ
     → IsText Right bytes answer → IsOfFile (Right bytes) bytes answer
 of_file Right bytes answer (inl (set, says, right)) = (Ok set, says, right)
 of_file Right bytes answer (inr (line, says, is)) = (Err line, says, is)
+
+-- a job on a file that was read answers for its bytes
+pub read_for : (Right : List ℕ → Answer → Type 0) (name : List ℕ) (supply : Supply)
+    (answer : Answer)
+    → ((bytes : List ℕ) × Holds supply bytes
+    × ((called held : Bor (List ℕ)) × (called.now ≡ name) × (held.now ≡ bytes)
+    × Right held.now answer))
+    → (bytes : List ℕ) × Holds supply bytes × Right bytes answer
+read_for Right name supply answer (bytes, holds, (called, held, one, same, right)) =
+    (bytes, holds, subst (λ (b : List ℕ). Right b answer) same right)
 
 -- for a file that was read
 pub of_source : (Right : List ℕ → Set → Answer → Type 0) (name : List ℕ) (supply : Supply)

@@ -4,3 +4,4 @@ pub mod Checking
 pub mod Delivering
 pub mod AsText
 pub mod AsJson
+pub mod Running

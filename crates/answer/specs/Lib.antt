@@ -3,3 +3,4 @@ pub mod Names
 pub mod Check
 pub mod Judged
 pub mod Delivered
+pub mod Run

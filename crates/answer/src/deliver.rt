@@ -76,7 +76,7 @@ pub fn write_answer<O: Sink, E: Sink>(
 }
 
 /// Tells why a file wasn't read. The answer is the exit status.
-fn tell_unread<E: Sink>(fault: Fault, err: &mut E) -> u8
+pub fn tell_unread<E: Sink>(fault: Fault, err: &mut E) -> u8
     requires fault { (fault ≡ Fault.Read) ⊎ (fault ≡ Fault.Memory) }
     requires err { CanCount (E.failures err.old) }
     ensures status { result ≡ fault_status fault }

@@ -3,6 +3,3 @@ pub mod Explained
 pub mod Wording
 pub mod Images
 pub mod Breaks
-pub mod Answering
-pub mod Pages
-pub mod Shown

@@ -1,71 +1,11 @@
--- How the words of an explanation go behind the lines of a verdict.
-use Rattle.std.proofs.Common.{◌≡◌, ◌≢◌, ◌∙◌, ◌⊎◌, ◌+◌, ◌<◌, ◌≤◌, List, [], ◌∷◌, ◌++◌, ℕ, ap, arith, suc, append_assoc, get_or, inl, inr, length, take, Option, Ok, Err, refl, sym, subst}
+-- The words on several refusals.
+use Rattle.std.proofs.Common.{◌≡◌, ◌∙◌, ◌+◌, ◌<◌, ◌≤◌, List, [], ◌∷◌, ◌++◌, ℕ, ap, arith, suc, append_assoc, get_or, length, take, refl, sym, subst}
 use Rattle.std.proofs.lemmas.List.{append-nil, map_push, take_all, take_more}
-use Rattle.std.specs.Io.KnownBytes.{Appends}
 use Rattle.verifier_words.specs.Faults.{refusals}
 use Rattle.verifier_words.specs.declared.telling.Told.{Told}
 use Rattle.model.specs.declared.abs.Refusal.{Refusal}
-use Rattle.model.specs.declared.abs.Rule.TheVariants.{Memory}
-use Rattle.model.specs.Set.{Set}
-use Rattle.model.specs.Typable.{IsFirstFault, IsTypable, at_start}
 use Rattle.report.specs.Verdict.{refusal_line}
-use Rattle.drvhost_devices.specs.declared.fault.End.{End}
-use Rattle.drvhost_devices.specs.declared.fault.End.TheVariants.{Complete, Stopped}
-use Rattle.drvhost_devices.specs.declared.fault.Fault.TheVariants.{Write}
-use Rattle.drvhost_devices.specs.Answer.{Answer, acceptance, ended}
-use Rattle.drvhost_devices.specs.Device.{Adds, TakesBeginning}
-use Rattle.drvhost_devices.specs.Fault.{Goes}
-use Rattle.drvhost_devices.proofs.Writing.{adds_all, adds_breaks, adds_line, begins_before}
-use Rattle.drvhost_devices.specs.declared.extent.Extent.{Extent}
-use Rattle.answer_explain.specs.Explained.{AreFurther, AreWordsOf, AreWordsOn, IsAcceptanceExplained, IsBlock, IsRefusalExplained, TellsLocks}
-
--- the lines of a verdict and words behind them are written, or a beginning of them
-pub goes_behind : (R : Answer → Type 0) (b m n : Option (List ℕ)) (l verdict words : List ℕ)
-    (end : End) → R (ended end (verdict ++ words)) → Adds b m [] l verdict
-    → Appends m n (l ++ words) → Goes R b n [] [] (Ok end)
-goes_behind R b m n l verdict words end right adds all = (
-  verdict ++ words,
-  right,
-  adds_all b m n [] (l ++ words) (verdict ++ words) (adds_line b m [] l verdict words adds) all,
-)
-
-pub broken_behind : (R : Answer → Type 0) (b m n : Option (List ℕ)) (l verdict words : List ℕ)
-    (end : End) → R (ended end (verdict ++ words)) → Adds b m [] l verdict
-    → TakesBeginning m n (l ++ words) → Goes R b n [] [] (Err Write)
-broken_behind R b m n l verdict words end right adds begins =
-    let told = verdict ++ words in
-    let P : List ℕ → Type 0 = TakesBeginning b n in (
-      ended end told,
-      right,
-      subst P (append-nil told)
-          (adds_breaks b m n [] (l ++ words) told []
-          (adds_line b m [] l verdict words adds) begins),
-    )
-
--- a beginning of the lines of an accepted set alone goes out
-pub accepted_broken : (set : Set) (words : List ℕ) (b n : Option (List ℕ)) → IsTypable set
-    → TellsLocks set words → TakesBeginning b n (acceptance set)
-    → Goes (IsAcceptanceExplained set) b n [] [] (Err Write)
-accepted_broken set words b n typable told begins = (
-  ended Complete (acceptance set ++ words),
-  (typable, (words, told, refl)),
-  begins_before b n (acceptance set) words begins,
-)
-
--- the line of a refusal and words behind it, unless there was no memory for a verdict
-pub refusal_right : (extent : Extent) (set : Set) (refusal : Refusal) (l words : List ℕ)
-    (end : End) → (refusal ≡ at_start Memory) ⊎ IsFirstFault set refusal
-    → (end ≡ Stopped) × (refusal.rule ≢ Memory) × (l ≡ refusal_line refusal)
-    → AreWordsOf extent set words → IsRefusalExplained extent set (ended end (l ++ words))
-refusal_right extent set refusal l words end (inl e) h are =
-    absurd (h.1 (ap (λ r. r.rule) e))
-refusal_right extent set refusal l words end (inr first) h are = (
-  refusal,
-  words,
-  first,
-  are,
-  ap (λ x. ended x (l ++ words)) h.0 ∙ ap (λ x. ended Stopped (x ++ words)) h.2,
-)
+use Rattle.answer_explain.specs.Explained.{AreFurther, AreWordsOn, IsBlock}
 
 -- words on the first of several refusals
 pub words_on_first : (all others : List Told) (first : Told) (words : List ℕ)

@@ -60,6 +60,11 @@ abbrev pub IsExplained : Extent → Set → Answer → Type 0
 IsExplained extent set answer =
     IsAcceptanceExplained set answer ⊎ IsRefusalExplained extent set answer
 
+-- bytes that are no set: the line that tells their first fault, with some words behind it
+abbrev pub IsFaultExplained : List ℕ → Answer → Type 0
+IsFaultExplained bytes answer =
+    (line words : List ℕ) × FileSays bytes (Err line) × (answer ≡ faulty (line ++ words))
+
 -- what `explain` answers for what a file says: for the set that it names the verdict, with words
 -- behind it; else the line that tells its first fault, with some words behind that
 abbrev pub IsExplainedSaid : Extent → Result Set (List ℕ) → Answer → Type 0
@@ -83,10 +88,13 @@ IsShown name alone answer =
     × (answer ≡ record alone { output = alone.output ++ hunt_line name }))
     ⊎ ((alone.status ≢ 1) × (answer ≡ alone))
 
+-- a right answer for the file of a name, likewise
+abbrev pub IsShownFor : List ℕ → (Answer → Type 0) → Answer → Type 0
+IsShownFor name Right answer = (alone : Answer) × Right alone × IsShown name alone answer
+
 -- what `explain` answers for the file of a name: of a refused set that command behind the words
 abbrev pub IsFileExplained : Extent → List ℕ → Supply → Answer → Type 0
-IsFileExplained extent name supply answer =
-    (alone : Answer) × IsExplainedOf extent supply alone × IsShown name alone answer
+IsFileExplained extent name supply = IsShownFor name (IsExplainedOf extent supply)
 
 -- what is answered of the warning on the order of locks: its name, with some words behind it
 abbrev pub IsLockOrderExplained : Answer → Type 0

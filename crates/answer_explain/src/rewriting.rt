@@ -1,20 +1,66 @@
 //! The image of a driver set, whatever its file is.
 
-ghost use Rattle.std.specs.Prelude.{◌≡◌, ◌+◌, ◌⊎◌, []};
-ghost use Rattle.drvhost_devices.specs.Device.{CanCount};
+ghost use Rattle.std.specs.Prelude.{◌≡◌, ◌+◌, ◌⊎◌, [], IfOk};
+ghost use Rattle.drvhost_devices.specs.Device.{Bytes, CanCount};
 ghost use Rattle.drvhost_devices.specs.Ends.{IsRewriteOf, TakesImage};
 ghost use Rattle.drvhost_devices.specs.Fault.{Goes, ReadsImage, reads_failed, status_of};
 ghost use Rattle.drvhost_devices.specs.Fault.{writes_failed};
 ghost use Rattle.drvhost_devices.specs.Ready.{CanAnswer};
 ghost use Rattle.answer_explain.specs.Devices.{AnswersOver};
 
+use answer::as_text::{Text, ended};
+use answer::content::Given;
+use answer::deliver::answer_to;
+use answer::judged::Unjudged;
+use answer::set::OnAnySet;
 use drvhost_devices::device::{Sink, Source};
 use drvhost_devices::fault::{End, Fault, finish, no_memory};
 use drvhost_devices::reading::set_of;
+use drvhost_devices::told::Told;
 use drvhost_devices::transfer::{read_whole, write_bytes};
-use image::encode;
+use image::{DriverSet, encode};
+use model::memory::OutOfMemory;
 use report::lines::Lines;
 use std::alloc::{AllocError, Global};
+
+/// The job of writing the image of a set, in the second edition.
+#[derive(Clone, Copy)]
+pub struct Rewriting;
+
+impl OnAnySet<Text> for Rewriting {
+    ghost use Rattle.drvhost_devices.specs.Answer.{IsRewritten};
+
+    ghost right = { λ _ _ _ _. IsRewritten };
+
+    fn on(
+        &self,
+        _form: &Text,
+        alloc: Global,
+        _given: &Given<'_>,
+        set: &DriverSet,
+    ) -> Result<Told, AllocError> {
+        let _sound = set.drivers();
+        match encode(alloc, set) {
+            Ok(bytes) => Ok(ended(alloc, End::Complete, bytes)),
+            Err(OutOfMemory) => Err(AllocError),
+        }
+    }
+}
+
+/// The image of the set that bytes name, in the second edition.
+///
+/// # Errors
+///
+/// When memory runs out.
+pub fn rewritten(alloc: Global, bytes: &[u8]) -> Result<Told, AllocError>
+    ensures { IfOk result (IsRewriteOf (Bytes bytes.now)) }
+{
+    let unjudged = Unjudged {
+        job: Rewriting,
+        form: Text,
+    };
+    Ok(answer_to(&unjudged, alloc, "", bytes)?)
+}
 
 /// Writes the image of a driver set, in the second edition, whether or not the set is accepted. The
 /// answer is the exit status: 0 where it was written, 2 where the set's text or its image is faulty

@@ -3,7 +3,7 @@
 ghost use Rattle.std.specs.Prelude.{IfOk};
 ghost use Rattle.verifier_warnings.specs.Warnings.{AreWarnings};
 
-use crate::explaining::origin_of;
+use answer::origin::origin_of;
 use std::alloc::{AllocError, Global};
 use verifier::Accepted;
 use verifier_warnings::warnings;

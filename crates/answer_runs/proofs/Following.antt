@@ -1,7 +1,7 @@
 -- How the trace of a run goes on, where the same event happens several times in a row.
-use Rattle.std.proofs.Common.{◌≡◌, ◌∙◌, ℕ, zero, suc, ◌+◌, ◌-◌, ◌<◌, Bool, true, false, ◌||◌, List, [], ◌∷◌, ◌++◌, length, replicate, Option, Some, refl, sym, ap, arith, append_assoc}
+use Rattle.std.proofs.Common.{◌≡◌, ◌∙◌, ℕ, zero, suc, ◌+◌, ◌-◌, ◌≤◌, Bool, true, false, ◌||◌, List, [], ◌∷◌, ◌++◌, length, replicate, Some, refl, sym, ap, arith, append_assoc}
 use Rattle.std.proofs.lemmas.Bool.{false≢true}
-use Rattle.std.proofs.lemmas.List.{append-nil, length-append, length-replicate}
+use Rattle.std.proofs.lemmas.List.{length-append, length-replicate, replicate-append-replicate}
 use Rattle.std.specs.List.{list_any}
 use Rattle.model.specs.declared.event.Event.{Event}
 use Rattle.model.specs.declared.event.Reply.{Reply}
@@ -13,8 +13,8 @@ use Rattle.report.specs.Reply.{reply_line}
 use Rattle.report.specs.Word.{word_line, word_lines, word_of}
 use Rattle.answer_runs.specs.declared.running.Replies.{Replies}
 use Rattle.drvhost_devices.specs.Answer.{is_last, reply_lines}
-use Rattle.drvhost_devices.specs.Device.{TakesBeginning}
 use Rattle.answer_runs.specs.Repeats.{told_by}
+use Rattle.answer_runs.specs.Traced.{lines_by}
 use Rattle.report.proofs.Heads.{word_is_reply}
 
 -- the run of one event more
@@ -44,47 +44,49 @@ any_on (reply ∷ told) later none =
     rw each.0 (any_on told later each.1)
 
 -- the lines of some replies, and of those after them
-pub lines_on : (number : ℕ) (told later : List Reply)
-    → reply_lines number (told ++ later)
-    ≡ reply_lines number told ++ reply_lines (number + length told) later
-lines_on number [] later = ap (λ n. reply_lines n later) (omega arith)
-lines_on number (reply ∷ told) later =
-    ap (λ lines. reply_line number reply ++ lines)
-    (lines_on (number + 1) told later
-    ∙ ap (λ n. reply_lines (number + 1) told ++ reply_lines n later) (omega arith))
-    ∙ sym (append_assoc (reply_line number reply) (reply_lines (number + 1) told)
-    (reply_lines (number + length (reply ∷ told)) later))
+pub lines_on : (line : ℕ → Reply → List ℕ) (number : ℕ) (told later : List Reply)
+    → lines_by line number (told ++ later)
+    ≡ lines_by line number told ++ lines_by line (number + length told) later
+lines_on line number [] later = ap (λ n. lines_by line n later) (omega arith)
+lines_on line number (reply ∷ told) later =
+    ap (λ lines. line number reply ++ lines)
+    (lines_on line (number + 1) told later
+    ∙ ap (λ n. lines_by line (number + 1) told ++ lines_by line n later) (omega arith))
+    ∙ sym (append_assoc (line number reply) (lines_by line (number + 1) told)
+    (lines_by line (number + length (reply ∷ told)) later))
 
--- the lines of replies that are the same, the first of them apart
-pub next_reply : (number count told : ℕ) (reply : Reply) → told < count
-    → reply_lines number (replicate (count - told) reply)
-    ≡ reply_lines number (reply ∷ [])
-    ++ reply_lines (number + 1) (replicate (count - (told + 1)) reply)
-next_reply number count told reply within =
-    let more : count - told ≡ suc (count - (told + 1)) = omega (arith, within) in
-    ap (λ n. reply_lines number (replicate n reply)) more
-    ∙ ap (λ line. line ++ reply_lines (number + 1) (replicate (count - (told + 1)) reply))
-    (sym (append-nil (reply_line number reply)))
+-- those of replies that are the same, the first of them apart
+pub next_lines : (line : ℕ → Reply → List ℕ) (number next after count told : ℕ) (reply : Reply)
+    → told ≤ count → next ≡ number → after ≡ next + told
+    → lines_by line number (replicate count reply)
+    ≡ lines_by line next (replicate told reply) ++ lines_by line after (replicate (count - told) reply)
+next_lines line number next after count told reply few same on =
+    let whole : count ≡ told + (count - told) = omega (arith, few) in
+    let behind : number + length (replicate told reply) ≡ after =
+    omega (arith, same, on, length-replicate told reply) in
+    ap (λ n. lines_by line number (replicate n reply)) whole
+    ∙ ap (λ all. lines_by line number all)
+    (sym (replicate-append-replicate told (count - told) reply))
+    ∙ lines_on line number (replicate told reply) (replicate (count - told) reply)
+    ∙ ap (λ n. lines_by line number (replicate told reply)
+    ++ lines_by line n (replicate (count - told) reply)) behind
+    ∙ ap (λ n. lines_by line n (replicate told reply)
+    ++ lines_by line after (replicate (count - told) reply)) (sym same)
 
--- a write fails before more is added
-pub breaks_before : (b n : Option (List ℕ)) (l more : List ℕ) → TakesBeginning b n l
-    → TakesBeginning b n (l ++ more)
-breaks_before b n l more p =
-    record {
-      part = p.part;
-      rest = p.rest ++ more;
-      split = ap (λ x. x ++ more) p.split ∙ append_assoc p.part p.rest more;
-      appended = p.appended;
-    }
-
--- the lines of replies that are all the same word
+-- as text: those of replies that are all the same word, and of any replies
 pub lines_word : (w : Word) (reply : Reply) → word_of reply ≡ Some w → (number count : ℕ)
-    → reply_lines number (replicate count reply) ≡ word_lines w number count
+    → lines_by reply_line number (replicate count reply) ≡ word_lines w number count
 lines_word w reply is number zero = refl
 lines_word w reply is number (suc count) =
-    ap (λ lines. lines ++ reply_lines (number + 1) (replicate count reply))
+    ap (λ lines. lines ++ lines_by reply_line (number + 1) (replicate count reply))
     (word_is_reply w reply is number)
     ∙ ap (λ lines. word_line w number ++ lines) (lines_word w reply is (number + 1) count)
+
+pub lines_same : (number : ℕ) (all : List Reply)
+    → lines_by reply_line number all ≡ reply_lines number all
+lines_same number [] = refl
+lines_same number (reply ∷ rest) =
+    ap (λ lines. reply_line number reply ++ lines) (lines_same (number + 1) rest)
 
 -- how many events are left
 pub counted : (count : ℕ) (e : Event) (rest : List Event)

@@ -4,6 +4,8 @@ pub mod Following
 pub mod Observing
 pub mod Together
 pub mod Lining
+pub mod Streaming
+pub mod Tracing
 pub mod RingsTold
 pub mod Readying
 pub mod Idling

@@ -1,5 +1,5 @@
 -- How the lines of a trace are added.
-use Rattle.std.proofs.Common.{◌≡◌, ◌∙◌, ℕ, zero, suc, ◌+◌, ◌≤◌, true, List, [], ◌++◌, Option, Result, Ok, Err, length, replicate, inr, refl, sym, ap, arith, subst, append_assoc}
+use Rattle.std.proofs.Common.{◌≡◌, ◌∙◌, ◌⊎◌, ℕ, zero, suc, ◌+◌, ◌≤◌, codes, true, List, [], ◌++◌, Option, Result, Ok, Err, length, replicate, inl, inr, refl, sym, ap, arith, subst, append_assoc}
 use Rattle.std.proofs.lemmas.List.{append-nil, length-append, length-replicate}
 use Rattle.model.specs.declared.event.Event.{Event}
 use Rattle.model.specs.declared.event.Reply.{Reply}
@@ -7,19 +7,22 @@ use Rattle.model.specs.declared.event.Reply.TheVariants.{Stepped}
 use Rattle.model.specs.History.{replies, replies_from}
 use Rattle.model.specs.Run.{begun, run}
 use Rattle.model.specs.Set.{Set}
+use Rattle.drvhost_devices.specs.declared.device.Sink as sink
 use Rattle.drvhost_devices.specs.declared.fault.End.{End}
 use Rattle.drvhost_devices.specs.declared.fault.Fault.{Fault}
-use Rattle.drvhost_devices.specs.declared.fault.Fault.TheVariants.{Write}
-use Rattle.drvhost_devices.specs.Answer.{ended, is_last, shown_replies, reply_lines, trace_of}
+use Rattle.drvhost_devices.specs.declared.fault.Fault.TheVariants.{Memory, Write}
+use Rattle.drvhost_devices.specs.Answer.{Answer, ended, is_last, shown_replies}
 use Rattle.drvhost_devices.specs.Device.{Adds, TakesBeginning}
-use Rattle.drvhost_devices.specs.Fault.{Goes, failed_reads, failed_writes, reads_failed, writes_failed}
-use Rattle.drvhost_devices.proofs.Writing.{Gathered, adds_more, begins_before, gathered_part}
+use Rattle.drvhost_devices.specs.Fault.{failed_writes}
+use Rattle.drvhost_devices.proofs.Writing.{Gathered, adds_more, appends_none, begins_before, gathered_broken, gathered_part, keeps_same}
 use Rattle.answer_runs.specs.declared.lined.LineWriter.{LineWriter}
+use Rattle.answer_runs.specs.declared.reply_lines.ReplyLines as reply_lines
 use Rattle.answer_runs.specs.declared.running.Replies.{Replies}
 use Rattle.answer_runs.specs.Lined.{Lines, LinesBreak}
 use Rattle.answer_runs.specs.Repeats.{AreReplies, RepeatsBy, told_by}
-use Rattle.answer_runs.specs.Watching.{BreaksOff, Observes, Takes, TellsOn, UpToLast}
-use Rattle.answer_runs.proofs.Following.{any_on, breaks_before, length_told, lines_on, none_last}
+use Rattle.answer_runs.specs.Traced.{Breaks, IsBeginning, IsOutOfMemory, IsTraceBy, Streams, lines_by, traced_by}
+use Rattle.answer_runs.specs.Watching.{BreaksOff, Observes, RunsBy, Takes, TellsOn, UpToLast}
+use Rattle.answer_runs.proofs.Following.{any_on, length_told, lines_on, none_last}
 use Rattle.answer_runs.proofs.Observing.{any_same, length_replies, replies_on, replies_told, shown_past, shown_until, up_same}
 
 -- replies of which none but the last one ends a run
@@ -48,31 +51,45 @@ takes_told set_of ShowsRun m n e r ran some once =
           ∙ any_same r.times r.last once some;
     }
 
-module _ {O : Type 0} (failures : O → ℕ) (contents : O → Option (List ℕ))
+-- memory ran out, and nothing more of what gathered went out
+pub gathered_cut : (all later : List ℕ) (b n : Option (List ℕ)) (g l : List ℕ)
+    → Gathered all later b n g l → TakesBeginning b n (g ++ all)
+gathered_cut all later b n g l h =
+    gathered_broken all later b n n g l h
+    (record { part = []; rest = l; split = refl; appended = appends_none n n (keeps_same n) })
+
+module _ {L O : Type 0} (page : reply_lines.Ghosts L) (output : sink.Ghosts O)
     {M : Type 0} (set_of : M → Set) (ShowsRun : M → ℕ → List Event → Type 0) (m : M) (e : Event)
-    (old : LineWriter O) where
+    (old : LineWriter L O) where
+  -- the lines of a run with some replies more
+  lines_more : (threads : ℕ) (past : List Event) (told : List Reply)
+      → AreReplies (set_of m) threads past e told → page.number old.page.now ≡ length past
+      → lines_by page.line 0 (replies (set_of m) threads (past ++ replicate (length told) e))
+      ≡ lines_by page.line 0 (replies (set_of m) threads past)
+      ++ lines_by page.line (page.number old.page.now) told
+  lines_more threads past told are numbered =
+      let before = replies (set_of m) threads past in
+      let long : length before ≡ page.number old.page.now =
+      length_replies (set_of m) (begun (set_of m) threads) past ∙ sym numbered in
+      ap (λ rs. lines_by page.line 0 rs) (replies_told (set_of m) threads e told past are)
+      ∙ lines_on page.line 0 before told
+      ∙ ap (λ k. lines_by page.line 0 before ++ lines_by page.line k told) (omega (arith, long))
+
   -- all lines of some replies were added
-  pub lines_on_told : (next : LineWriter O) (told : List Reply)
+  pub lines_on_told : (next : LineWriter L O) (told : List Reply)
       → ((threads : ℕ) (past : List Event) → ShowsRun m threads past
       → AreReplies (set_of m) threads past e told)
-      → next.lines.ghost_name ≡ old.lines.ghost_name → next.out.ghost_name ≡ old.out.ghost_name
-      → failures next.out.now ≡ failures old.out.now + 0 → next.number ≡ old.number + length told
-      → Adds (contents old.out.now) (contents next.out.now) old.lines.now next.lines.now
-      (reply_lines old.number told)
-      → TellsOn set_of ShowsRun (Lines failures contents) (Lines failures contents) m old next
+      → next.page.ghost_name ≡ old.page.ghost_name → next.out.ghost_name ≡ old.out.ghost_name
+      → output.failures next.out.now ≡ output.failures old.out.now + 0
+      → page.number next.page.now ≡ page.number old.page.now + length told
+      → Adds (output.contents old.out.now) (output.contents next.out.now)
+      (page.gathered old.page.now) (page.gathered next.page.now)
+      (lines_by page.line (page.number old.page.now) told)
+      → TellsOn set_of ShowsRun (Lines page output) (Lines page output) m old next
       (replicate (length told) e)
-  lines_on_told next told are same_lines same_out fine number adds start threads past shows l =
-      let before = replies (set_of m) threads past in
-      let numbered : length before ≡ old.number =
-      length_replies (set_of m) (begun (set_of m) threads) past ∙ sym l.numbered in
-      let lines : reply_lines 0 (replies (set_of m) threads (past ++ replicate (length told) e))
-      ≡ reply_lines 0 before ++ reply_lines old.number told =
-      ap (λ rs. reply_lines 0 rs)
-      (replies_told (set_of m) threads e told past (are threads past shows))
-      ∙ lines_on 0 before told
-      ∙ ap (λ k. reply_lines 0 before ++ reply_lines k told) (omega (arith, numbered)) in
+  lines_on_told next told are same_page same_out fine number adds start threads past shows l =
       record {
-        same_lines = same_lines ∙ l.same_lines;
+        same_page = same_page ∙ l.same_page;
         same_out = same_out ∙ l.same_out;
         room = l.room;
         fine = omega (arith, fine, l.fine);
@@ -84,117 +101,148 @@ module _ {O : Type 0} (failures : O → ℕ) (contents : O → Option (List ℕ)
           length-replicate (length told) e,
         );
         adds =
-            subst (λ x. Adds (contents start.out.now) (contents next.out.now) start.lines.now
-            next.lines.now x) (sym lines)
+            subst (λ x. Adds (output.contents start.out.now) (output.contents next.out.now)
+            (page.gathered start.page.now) (page.gathered next.page.now) x)
+            (sym (lines_more threads past told (are threads past shows) l.numbered))
             (adds_more _ _ _ _ _ _ _ _ l.adds adds);
       }
 
-  -- or a write failed before all of them were
-  pub lines_break : (next : LineWriter O) (fault : Fault) (told : List Reply) (count : ℕ)
+  -- or a write failed or memory ran out before all of them were
+  pub lines_break : (next : LineWriter L O) (fault : Fault) (told : List Reply) (count : ℕ)
       → ((threads : ℕ) (past : List Event) → ShowsRun m threads past
       → AreReplies (set_of m) threads past e told)
       → UpToLast told → length told ≤ count
-      → next.lines.ghost_name ≡ old.lines.ghost_name → next.out.ghost_name ≡ old.out.ghost_name
-      → fault ≡ Write → failures next.out.now ≡ failures old.out.now + failed_writes fault
-      → TakesBeginning (contents old.out.now) (contents next.out.now)
-      (old.lines.now ++ reply_lines old.number told)
-      → BreaksOff set_of ShowsRun (Lines failures contents)
-      (λ start now. LinesBreak failures contents start now fault) m e old next count
-  lines_break next fault told count are up few same_lines same_out is failed takes =
+      → next.page.ghost_name ≡ old.page.ghost_name → next.out.ghost_name ≡ old.out.ghost_name
+      → Breaks page.lacks fault
+      → output.failures next.out.now ≡ output.failures old.out.now + failed_writes fault
+      → TakesBeginning (output.contents old.out.now) (output.contents next.out.now)
+      (page.gathered old.page.now ++ lines_by page.line (page.number old.page.now) told)
+      → BreaksOff set_of ShowsRun (Lines page output)
+      (λ start now. LinesBreak page output start now fault) m e old next count
+  lines_break next fault told count are up few same_page same_out is failed takes =
       record {
         told = told;
         up = up;
         few = few;
         are = are;
         breaks = λ start threads past shows l.
-            let before = replies (set_of m) threads past in
-            let numbered : length before ≡ old.number =
-            length_replies (set_of m) (begun (set_of m) threads) past ∙ sym l.numbered in
-            let lines : reply_lines 0 (replies (set_of m) threads (past ++ replicate (length told) e))
-            ≡ reply_lines 0 before ++ reply_lines old.number told =
-            ap (λ rs. reply_lines 0 rs)
-            (replies_told (set_of m) threads e told past (are threads past shows))
-            ∙ lines_on 0 before told
-            ∙ ap (λ k. reply_lines 0 before ++ reply_lines k told) (omega (arith, numbered)) in
-            let gathered : Gathered (reply_lines 0 before ++ reply_lines old.number told)
-            (reply_lines old.number told) (contents start.out.now) (contents old.out.now) start.lines.now
-            old.lines.now =
-            record { text = reply_lines 0 before; whole = refl; adds = l.adds } in
+            let before = lines_by page.line 0 (replies (set_of m) threads past) in
+            let more = lines_by page.line (page.number old.page.now) told in
+            let gathered : Gathered (before ++ more) more (output.contents start.out.now)
+            (output.contents old.out.now) (page.gathered start.page.now) (page.gathered old.page.now) =
+            record { text = before; whole = refl; adds = l.adds } in
             record {
-              same_lines = same_lines ∙ l.same_lines;
+              same_page = same_page ∙ l.same_page;
               same_out = same_out ∙ l.same_out;
               is = is;
-              failed = failed ∙ ap (λ f. failures old.out.now + failed_writes f) is
-                  ∙ ap (λ k. k + 1) l.fine;
+              failed = failed ∙ ap (λ k. k + failed_writes fault) l.fine;
               takes =
-                  subst (λ x. TakesBeginning (contents start.out.now) (contents next.out.now)
-                  (start.lines.now ++ x)) (sym lines)
-                  (gathered_part _ _ (reply_lines old.number told) [] _ _ _ _ _ gathered
-                  (sym (append-nil (reply_lines old.number told))) takes);
+                  subst (λ x. TakesBeginning (output.contents start.out.now)
+                  (output.contents next.out.now) (page.gathered start.page.now ++ x))
+                  (sym (lines_more threads past told (are threads past shows) l.numbered))
+                  (gathered_part _ _ more [] _ _ _ _ _ gathered (sym (append-nil more)) takes);
             };
       }
 
 -- the lines of a run that was observed
-module _ {O : Type 0} (failures : O → ℕ) (contents : O → Option (List ℕ))
-    (Shown : ℕ → List Event → Type 0) (start now : LineWriter O) (set : Set) (threads : ℕ)
+module _ {L O : Type 0} (page : reply_lines.Ghosts L) (output : sink.Ghosts O)
+    (Shown : ℕ → List Event → Type 0) (start now : LineWriter L O) (set : Set) (threads : ℕ)
     (events : List Event) where
   abbrev Observed_so : Result End Fault → Type 0
   Observed_so result =
-      Observes Shown (Lines failures contents start now set)
-      (λ fault. LinesBreak failures contents start now fault set) set threads events result
+      Observes Shown (Lines page output start now set)
+      (λ fault. LinesBreak page output start now fault set) set threads events result
 
-  pub observed_lines : (result : Result End Fault) → Observed_so result
-      → now.lines.ghost_name ≡ start.lines.ghost_name
-  observed_lines (Ok end) (past, runs, shown, lines) = lines.same_lines
-  observed_lines (Err fault) (past, some, broken) = broken.same_lines
+  abbrev all_replies : List Reply
+  all_replies = shown_replies set (begun set threads) events
+
+  abbrev IsRun : Answer → Type 0
+  IsRun = IsTraceBy page.lacks page.line all_replies
+
+  pub observed_page : (result : Result End Fault) → Observed_so result
+      → now.page.ghost_name ≡ start.page.ghost_name
+  observed_page (Ok end) (past, runs, shown, lines) = lines.same_page
+  observed_page (Err fault) (past, some, broken) = broken.same_page
 
   pub observed_out : (result : Result End Fault) → Observed_so result
       → now.out.ghost_name ≡ start.out.ghost_name
   observed_out (Ok end) (past, runs, shown, lines) = lines.same_out
   observed_out (Err fault) (past, some, broken) = broken.same_out
 
-  pub observed_reads : (result : Result End Fault) → Observed_so result → reads_failed result ≡ 0
-  observed_reads (Ok end) o = refl
-  observed_reads (Err fault) (past, some, broken) = ap (λ f. failed_reads f) broken.is
+  pub observed_room : (end : End) → Observed_so (Ok end)
+      → output.failures now.out.now ≡ output.failures start.out.now
+  observed_room end (past, runs, shown, lines) = lines.fine
 
-  pub observed_writes : (result : Result End Fault) → Observed_so result
-      → failures now.out.now ≡ failures start.out.now + writes_failed result
-  observed_writes (Ok end) (past, runs, shown, lines) = omega (arith, lines.fine)
-  observed_writes (Err fault) (past, some, broken) =
-      broken.failed ∙ ap (λ f. failures start.out.now + failed_writes f) (sym broken.is)
+  pub observed_failed : (fault : Fault) → Observed_so (Err fault)
+      → output.failures now.out.now ≡ output.failures start.out.now + failed_writes fault
+  observed_failed fault (past, some, broken) = broken.failed
 
-  abbrev all_replies : List Reply
-  all_replies = shown_replies set (begun set threads) events
+  either : (fault : Fault) → Breaks page.lacks fault → (fault ≡ Write) ⊎ (fault ≡ Memory)
+  either fault (inl is) = inl is
+  either fault (inr (is, lacks)) = inr is
 
-  pub observed_goes : start.lines.now ≡ [] → (result : Result End Fault) → Observed_so result
-      → Goes (λ answer. answer ≡ trace_of all_replies) (contents start.out.now)
-      (contents now.out.now) [] now.lines.now result
-  observed_goes empty (Ok end) (past, runs, shown, lines) =
+  pub observed_fault : (fault : Fault) → Observed_so (Err fault)
+      → (fault ≡ Write) ⊎ (fault ≡ Memory)
+  observed_fault fault (past, some, broken) = either fault broken.is
+
+  -- all of them were added
+  pub observed_told : page.gathered start.page.now ≡ [] → (end : End) → Observed_so (Ok end)
+      → (text : List ℕ) × IsRun (ended end text)
+      × Adds (output.contents start.out.now) (output.contents now.out.now) []
+      (page.gathered now.page.now) text
+  observed_told empty end (past, runs, shown, lines) =
       let told = replies set threads past in
+      let text = lines_by page.line 0 told in
       let all : all_replies ≡ told = shown_past set threads events past end runs in (
-        reply_lines 0 told,
-        ap (λ e. ended e (reply_lines 0 told)) runs.ends ∙ ap (λ rs. trace_of rs) (sym all),
-        subst (λ l. Adds (contents start.out.now) (contents now.out.now) l now.lines.now
-            (reply_lines 0 told)) empty lines.adds,
+        text,
+        inl (ap (λ e. ended e text) runs.ends ∙ ap (λ rs. traced_by page.line rs) (sym all)),
+        subst (λ l. Adds (output.contents start.out.now) (output.contents now.out.now) l
+            (page.gathered now.page.now) text) empty lines.adds,
       )
-  observed_goes empty (Err fault) (past, (later, split), broken) =
+
+  -- or the telling broke off: so much of them went out
+  broken_takes : (past : List Event) (fault : Fault) → page.gathered start.page.now ≡ []
+      → RunsBy set threads events past
+      → LinesBreak page output start now fault set threads past
+      → TakesBeginning (output.contents start.out.now) (output.contents now.out.now)
+      (lines_by page.line 0 all_replies)
+  broken_takes past fault empty (later, split) broken =
       let told = replies set threads past in
       let behind = replies_from set (run set threads past) later in
+      let lines = lines_by page.line 0 told in
+      let more = lines_by page.line (0 + length told) behind in
       let all : all_replies ≡ told ++ behind =
       shown_until set (begun set threads) events
       ∙ ap (λ (es : List Event). replies set threads es) split
       ∙ replies_on set (begun set threads) past later in
-      let P : Fault → Type 0 = λ f. Goes (λ answer. answer ≡ trace_of all_replies)
-      (contents start.out.now) (contents now.out.now) [] now.lines.now (Err f) in
-      subst P (sym broken.is) (
-        trace_of all_replies,
-        refl,
-        subst (λ l. TakesBeginning (contents start.out.now) (contents now.out.now)
-            (l ++ reply_lines 0 all_replies)) empty
-            (subst (λ x. TakesBeginning (contents start.out.now) (contents now.out.now)
-            (start.lines.now ++ x)) (sym (ap (λ rs. reply_lines 0 rs) all ∙ lines_on 0 told behind))
-            (subst (λ x. TakesBeginning (contents start.out.now) (contents now.out.now) x)
-            (append_assoc start.lines.now (reply_lines 0 told)
-            (reply_lines (0 + length told) behind))
-            (begins_before _ _ _ _ broken.takes))),
-      )
+      let P : List ℕ → Type 0 =
+      TakesBeginning (output.contents start.out.now) (output.contents now.out.now) in
+      subst (λ l. P (l ++ lines_by page.line 0 all_replies)) empty
+      (subst (λ x. P (page.gathered start.page.now ++ x))
+      (sym (ap (λ rs. lines_by page.line 0 rs) all ∙ lines_on page.line 0 told behind))
+      (subst P (append_assoc (page.gathered start.page.now) lines more)
+      (begins_before _ _ _ _ broken.takes)))
+
+  broken_streams : (fault : Fault) → Breaks page.lacks fault
+      → TakesBeginning (output.contents start.out.now) (output.contents now.out.now)
+      (lines_by page.line 0 all_replies)
+      → Streams IsRun (output.contents start.out.now) (output.contents now.out.now) (Err fault)
+  broken_streams fault (inl is) takes =
+      let P : Fault → Type 0 = λ f. Streams IsRun (output.contents start.out.now)
+      (output.contents now.out.now) (Err f) in
+      subst P (sym is) (traced_by page.line all_replies, inl refl, takes)
+  broken_streams fault (inr (is, lacks)) takes =
+      let P : Fault → Type 0 = λ f. Streams IsRun (output.contents start.out.now)
+      (output.contents now.out.now) (Err f) in
+      let short : Answer =
+      record { status = 3; output = takes.part; told = codes "out of memory\n" } in
+      let says : IsOutOfMemory short = record { status = refl; says = refl } in
+      let begins : IsBeginning (traced_by page.line all_replies) short =
+      record { rest = takes.rest; split = takes.split; short = says } in
+      subst P (sym is) (inr (short, inr (lacks, begins), says, takes.appended))
+
+  pub observed_broken : page.gathered start.page.now ≡ [] → (fault : Fault)
+      → Observed_so (Err fault)
+      → Streams IsRun (output.contents start.out.now) (output.contents now.out.now) (Err fault)
+  observed_broken empty fault (past, some, broken) =
+      broken_streams fault broken.is (broken_takes past fault empty some broken)

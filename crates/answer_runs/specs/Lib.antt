@@ -1,5 +1,8 @@
-pub mod Lined
 pub mod Repeats
+pub mod Traced
+pub mod Lined
+pub mod InJson
+pub mod Tracing
 pub mod Served
 pub mod Watching
 pub mod Hosted

@@ -2,10 +2,7 @@ pub mod ToldLines
 pub mod Unchanged
 pub mod ToldOn
 pub mod ToldAnswers
-pub mod ShownRuns
 pub mod ToldAlone
 pub mod PlainlySeen
 pub mod DrawnRuns
-pub mod WordStore
-pub mod Pieces
-pub mod Gathering
+pub mod ToldJson

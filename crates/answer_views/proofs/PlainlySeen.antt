@@ -20,7 +20,8 @@ use Rattle.tell_uses.proofs.PlainSteps.{nothing_used}
 use Rattle.answer_views.specs.Seen.{is_stepped}
 use Rattle.drvhost_devices.specs.declared.manner.Detail.{Detail}
 use Rattle.drvhost_devices.specs.declared.manner.Detail.TheVariants.{Quiet, Usual}
-use Rattle.answer_views.specs.Told.{LedgerGoesOn, is_left_out}
+use Rattle.answer_views.specs.Told.{is_left_out}
+use Rattle.tell_json.specs.Telling.{LedgerGoesOn}
 use Rattle.answer_views.proofs.ToldAlone.{noted_by}
 
 -- a step is left out: in quiet each, and usually one that only computes

@@ -1,5 +1,6 @@
 -- Steps that change nothing but the activation on their thread's top, as runs are told.
-use Rattle.std.proofs.Common.{◌≡◌, ◌∙◌, ℕ, zero, suc, ◌+◌, ◌≤◌, Bool, true, false, ◌||◌, if◌then◌else◌, List, [], ◌∷◌, ◌++◌, append_assoc, arith, length, refl, replicate, subst, sym, ap}
+use Rattle.std.proofs.Common.{◌≡◌, ◌∙◌, ℕ, zero, suc, ◌+◌, ◌≤◌, Bool, false, if◌then◌else◌, List, [], ◌∷◌, ◌++◌, append_assoc, arith, length, refl, replicate, subst, sym, ap}
+use Rattle.std.proofs.Math.Bool.{or-false}
 use Rattle.std.proofs.lemmas.Bool.{false≢true}
 use Rattle.std.proofs.lemmas.List.{append-nil, length-replicate}
 use Rattle.checked.specs.GoingOn.{GoesOn, StepsAlone, more as goes_more, none}
@@ -7,12 +8,12 @@ use Rattle.drvhost_devices.specs.declared.manner.Detail.{Detail}
 use Rattle.drvhost_devices.specs.declared.manner.Detail.TheVariants.{Every, Quiet}
 use Rattle.answer_views.specs.declared.telling.Telling.{Telling}
 use Rattle.answer_runs.specs.Repeats.{AreReplies, RepeatsBy}
-use Rattle.answer_views.specs.Told.{GoesAlone, IsTelling, IsTold, LedgerGoesOn, TellsAlike, ToldAlone, ToldOnce, occurrences, occurs, told_line, unknown_step}
+use Rattle.answer_views.specs.Told.{GoesAlone, IsTelling, IsTold, TellsAlike, ToldAlone, ToldOnce, occurrences, occurs, told_line, unknown_step}
 use Rattle.answer_runs.specs.Watching.{Takes, TellsOn}
 use Rattle.answer_runs.proofs.Following.{run_more}
 use Rattle.answer_runs.proofs.Observing.{takes_same}
 use Rattle.answer_runs.proofs.Repeating.{added as added_one}
-use Rattle.answer_views.proofs.ToldLines.{none_left, told_again}
+use Rattle.answer_views.proofs.ToldLines.{none_left, told_more, told_none}
 use Rattle.answer_views.proofs.ToldOn.{telling_on}
 use Rattle.model.specs.declared.event.Event.{Event}
 use Rattle.model.specs.declared.event.Event.TheVariants.{Step}
@@ -23,6 +24,7 @@ use Rattle.model.specs.Run.{Run, begun, run, step}
 use Rattle.model.specs.Set.{Set}
 use Rattle.model.specs.World.{World}
 use Rattle.report.specs.Reply.{worded_line}
+use Rattle.tell_json.specs.Telling.{LedgerGoesOn}
 use Rattle.tell_uses.specs.Acting.{acting_in}
 use Rattle.tell_uses.specs.Acts.{use_step}
 use Rattle.tell_uses.specs.GoingOn.{GoingOnKeepsLedgers}
@@ -34,7 +36,8 @@ pub noted_by : (m n : Machine) (e : Event) (reply : Reply) (l k : LedgerState)
     → LedgerTellsOn n.set n.world e (use_step m.set m.world e) reply l k → LedgerGoesOn m e l k
 noted_by m n e reply l k ran noted threads events shows tells =
     let on : LedgerTellsOn m.set n.world e (use_step m.set m.world e) reply l k =
-    subst (λ (s : Set). LedgerTellsOn s n.world e (use_step m.set m.world e) reply l k) ran.set noted in
+    subst (λ (s : Set). LedgerTellsOn s n.world e (use_step m.set m.world e) reply l k) ran.set
+    noted in
     on threads events (ap (λ (w : World). use_step m.set w e) shows.world)
     (ran.replies threads events shows)
     ((ran.shows threads events shows).world
@@ -66,25 +69,12 @@ goes_one t m k n o i before (goes_more j p q first applies alone) few some =
 pub told_one : (detail : Detail) (k number at : ℕ) (text before more : List ℕ)
     → ToldAlone detail number k text before → at ≡ number + k
     → ToldOnce detail at unknown_step before more → ToldAlone detail number (k + 1) text more
-told_one detail k number at text before more (alike, (added, is, told)) numbered (words, adds) =
-    let line : List ℕ = told_line detail at unknown_step words in
-    let more_by_one : suc k ≡ k + 1 = omega arith in
-    let all : IsTold detail number (replicate (suc k) unknown_step)
-    (added ++ told_line detail (number + k) unknown_step words) =
-    told_again detail k number unknown_step added words told in (
-      alike,
-      (
-        added ++ line,
-        adds ∙ ap (λ (x : List ℕ). x ++ line) is ∙ append_assoc text added line,
-        subst (λ (j : ℕ). IsTold detail number (replicate j unknown_step) (added ++ line)) more_by_one
-            (subst (λ (i : ℕ). IsTold detail number (replicate (suc k) unknown_step)
-            (added ++ told_line detail i unknown_step words)) (sym numbered) all),
-      ),
-    )
+told_one detail k number at text before more (alike, told) numbered once =
+    (alike, told_more detail k number at unknown_step text before more told numbered once)
 
 -- none is told yet
-pub told_none : (number : ℕ) (text : List ℕ) → ToldAlone Every number 0 text text
-told_none number text = (λ acting. refl, ([], sym (append-nil text), refl))
+pub alone_none : (number : ℕ) (text : List ℕ) → ToldAlone Every number 0 text text
+alone_none number text = (λ acting. refl, told_none Every number unknown_step text)
 
 -- in quiet nothing is told
 pub told_quiet : (number k : ℕ) (text : List ℕ) → ToldAlone Quiet number k text text
@@ -155,16 +145,12 @@ module _ (detail : Detail) (alike : TellsAlike detail) (set : Set) (threads : �
       ≡ told_line detail number (occurs acting (step set here e).reply) words =
       ap (λ (b : Bool). if b then [] else worded_line number Stepped words) (sym (alike acting))
       ∙ ap (λ (r : Reply). told_line detail number (occurs acting r) words) are.0 in
-      let behind : IsTold detail (number + 1) (occurrences set (step set here e).run (replicate k e))
-      later =
+      let behind : IsTold detail (number + 1)
+      (occurrences set (step set here e).run (replicate k e)) later =
       subst (λ (r : Run). IsTold detail (number + 1) (occurrences set r (replicate k e)) later)
       (run_more set (begun set threads) past e)
       (alone_told k (number + 1) (past ++ e ∷ []) later are.1 rest) in
       (words, (later, is ∙ ap (λ (x : List ℕ). x ++ later) same, behind))
-
-or_false : (b : Bool) → b || false ≡ b
-or_false true = refl
-or_false false = refl
 
 -- they are taken, and the telling goes on
 module _ (m n : Machine) (k : ℕ) (some : 1 ≤ k) where
@@ -178,13 +164,13 @@ module _ (m n : Machine) (k : ℕ) (some : 1 ≤ k) where
   pub alone_telling : GoingOnKeepsLedgers → (e : Event) (old new : Telling) → GoesAlone e m k n
       → new.page.detail ≡ old.page.detail → new.page.number ≡ old.page.number + k
       → new.refused ≡ old.refused → new.sight.ledger ≡ old.sight.ledger
-      → ToldAlone old.page.detail old.page.number k old.page.text new.page.text
+      → ToldAlone old.page.detail old.page.number k old.page.text.items new.page.text.items
       → TellsOn (λ (x : Machine). x.set) ShowsWhole IsTelling IsTelling m old new (replicate k e)
   alone_telling law (Step t) old new goes detail number refused ledger
       (alike, (added, is, told)) =
       let ran = alone_ran t m k n goes in
       telling_on m n (Step t) Stepped k old new ran some detail number
-      (refused ∙ sym (or_false old.refused))
+      (refused ∙ sym (or-false old.refused))
       (λ threads past shows tells.
       subst (λ (l : LedgerState). TellsRun (run m.set threads (past ++ replicate k (Step t))) l)
       (sym ledger) (law t k m n old.sight.ledger threads past goes shows tells))

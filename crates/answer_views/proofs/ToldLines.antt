@@ -1,13 +1,12 @@
 -- Lines of events, as their level tells them: of each one, or none.
-use Rattle.std.proofs.Common.{◌≡◌, ◌∙◌, ℕ, zero, suc, ◌+◌, ◌-◌, ◌≤◌, Bool, true, false, List, [], ◌∷◌, ◌++◌, Result, Ok, Err, OnOk, refl, sym, ap, arith, replicate, subst, append_assoc, if◌then◌else◌}
+use Rattle.std.proofs.Common.{◌≡◌, ◌∙◌, ℕ, zero, suc, ◌+◌, ◌-◌, ◌≤◌, Bool, true, false, List, [], ◌∷◌, ◌++◌, Result, Ok, Err, OnOk, refl, sym, ap, arith, length, replicate, subst, take, append_assoc, if◌then◌else◌}
 use Rattle.std.proofs.lemmas.List.{append-nil}
 use Rattle.report.specs.Reply.{worded_line}
-use Rattle.answer_views.specs.Lines.{worded_lines}
 use Rattle.drvhost_devices.specs.declared.manner.Detail.{Detail}
-use Rattle.answer_views.specs.Told.{IsTold, Occurrence, ToldOnce, ToldTimes, is_left_out, told_line}
+use Rattle.answer_views.specs.Told.{IsTold, Occurrence, ToldOnce, ToldTimes, headed, is_left_out, told_line}
 
 -- one more of the same
-pub told_again : (detail : Detail) (count number : ℕ) (o : Occurrence) (added words : List ℕ)
+told_again : (detail : Detail) (count number : ℕ) (o : Occurrence) (added words : List ℕ)
     → IsTold detail number (replicate count o) added
     → IsTold detail number (replicate (suc count) o)
     (added ++ told_line detail (number + count) o words)
@@ -31,61 +30,27 @@ told_again detail (suc count) number o added words (first, (later, is, told)) =
     subst (λ (k : ℕ). IsTold detail number (o ∷ replicate (suc count) o)
     (added ++ told_line detail k o words)) numbers all
 
--- lines with the same words are told behind so many of the same
-told_lines : (detail : Detail) (some count number : ℕ) (o : Occurrence) (added words : List ℕ)
-    → is_left_out detail o.acting o.reply ≡ false → IsTold detail number (replicate count o) added
-    → IsTold detail number (replicate (count + some) o)
-    (added ++ worded_lines (number + count) o.reply words some)
-told_lines detail zero count number o added words told all =
-    let none : count + 0 ≡ count = omega arith in
-    rw (append-nil added, none) all
-told_lines detail (suc some) count number o added words told all =
-    let line : List ℕ = worded_line (number + count) o.reply words in
-    let later : List ℕ = worded_lines (number + count + 1) o.reply words some in
-    let counts : suc count + some ≡ count + suc some = omega arith in
-    let numbers : number + suc count ≡ number + count + 1 = omega arith in
-    let is : told_line detail (number + count) o words ≡ line =
-    ap (λ (b : Bool). if b then [] else worded_line (number + count) o.reply words) told in
-    let once : IsTold detail number (replicate (suc count) o) (added ++ line) =
-    subst (λ (l : List ℕ). IsTold detail number (replicate (suc count) o) (added ++ l)) is
-    (told_again detail count number o added words all) in
-    let whole : (added ++ line) ++ worded_lines (number + suc count) o.reply words some
-    ≡ added ++ (line ++ later) =
-    ap (λ n. (added ++ line) ++ worded_lines n o.reply words some) numbers
-    ∙ append_assoc added line later in
-    subst (λ (k : ℕ). IsTold detail number (replicate k o) (added ++ (line ++ later))) counts
-    (subst (λ (l : List ℕ). IsTold detail number (replicate (suc count + some) o) l) whole
-    (told_lines detail some (suc count) number o (added ++ line) words told once))
-
-pub lines_told : (detail : Detail) (number count left some at : ℕ) (o : Occurrence)
-    (words text before beyond : List ℕ) → is_left_out detail o.acting o.reply ≡ false
-    → at + left ≡ number + count → left ≤ count → some ≤ left
-    → (added : List ℕ) × (before ≡ text ++ added)
-    × IsTold detail number (replicate (count - left) o) added
-    → beyond ≡ before ++ worded_lines at o.reply words some
-    → (added : List ℕ) × (beyond ≡ text ++ added)
-    × IsTold detail number (replicate (count - (left - some)) o) added
-lines_told detail number count left some at o words text before beyond told is few most
-    (added, holds, all) more =
-    let place : at ≡ number + (count - left) = omega (arith, is, few) in
-    let counts : count - left + some ≡ count - (left - some) = omega (arith, few, most) in
-    let lines : List ℕ = worded_lines (number + (count - left)) o.reply words some in
-    let whole : beyond ≡ text ++ (added ++ lines) =
-    more ∙ ap (λ n. before ++ worded_lines n o.reply words some) place ∙ ap (λ x. x ++ lines) holds
-    ∙ append_assoc text added lines in (
-      added ++ lines,
-      whole,
-      subst (λ (k : ℕ). IsTold detail number (replicate k o) (added ++ lines)) counts
-          (told_lines detail some (count - left) number o added words told all),
-    )
-
 -- none of them is told yet
-pub none_told : (detail : Detail) (number count : ℕ) (o : Occurrence) (text : List ℕ)
-    → (added : List ℕ) × (text ≡ text ++ added)
-    × IsTold detail number (replicate (count - count) o) added
-none_told detail number count o text =
-    let none : count - count ≡ 0 = omega arith in
-    ([], sym (append-nil text), rw none refl)
+pub told_none : (detail : Detail) (number : ℕ) (o : Occurrence) (text : List ℕ)
+    → ToldTimes detail number o 0 text text
+told_none detail number o text = ([], sym (append-nil text), refl)
+
+-- one is told behind so many
+pub told_more : (detail : Detail) (k number at : ℕ) (o : Occurrence) (text before more : List ℕ)
+    → ToldTimes detail number o k text before → at ≡ number + k → ToldOnce detail at o before more
+    → ToldTimes detail number o (k + 1) text more
+told_more detail k number at o text before more (added, is, told) numbered (words, adds) =
+    let line : List ℕ = told_line detail at o words in
+    let more_by_one : suc k ≡ k + 1 = omega arith in
+    let all : IsTold detail number (replicate (suc k) o)
+    (added ++ told_line detail (number + k) o words) =
+    told_again detail k number o added words told in (
+      added ++ line,
+      adds ∙ ap (λ (x : List ℕ). x ++ line) is ∙ append_assoc text added line,
+      subst (λ (j : ℕ). IsTold detail number (replicate j o) (added ++ line)) more_by_one
+          (subst (λ (i : ℕ). IsTold detail number (replicate (suc k) o)
+          (added ++ told_line detail i o words)) (sym numbered) all),
+    )
 
 -- nothing is told of any that are left out
 pub none_left : (detail : Detail) (count number : ℕ) (o : Occurrence)
@@ -140,3 +105,16 @@ nothing_told detail number o text left = (
       ∙ ap (λ (b : Bool). text ++ (if b then [] else worded_line number o.reply []))
       (sym left),
 )
+
+-- a line is added by its parts
+pub parts_added : (text one two three more line front rest : List ℕ)
+    → one ≡ text ++ take (length line - 1) line → two ≡ one ++ front → three ≡ two ++ rest
+    → more ≡ three ++ 10 ∷ [] → more ≡ text ++ headed line (front ++ rest)
+parts_added text one two three more line front rest a b c d =
+    let head : List ℕ = take (length line - 1) line in
+    let end : List ℕ = 10 ∷ [] in
+    d ∙ ap (λ (x : List ℕ). x ++ end) c ∙ ap (λ (x : List ℕ). (x ++ rest) ++ end) b
+    ∙ ap (λ (x : List ℕ). ((x ++ front) ++ rest) ++ end) a
+    ∙ ap (λ (x : List ℕ). x ++ end) (append_assoc (text ++ head) front rest)
+    ∙ append_assoc (text ++ head) (front ++ rest) end
+    ∙ append_assoc text head ((front ++ rest) ++ end)

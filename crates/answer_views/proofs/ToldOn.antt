@@ -2,6 +2,7 @@
 use Rattle.std.proofs.Common.{◌≡◌, ◌∙◌, ℕ, zero, suc, ◌+◌, ◌≤◌, Bool, true, false, ◌||◌, List, [], ◌∷◌, ◌++◌, Option, inl, inr, refl, sym, ap, arith, length, replicate, subst, append_assoc, if◌then◌else◌}
 use Rattle.std.proofs.lemmas.Bool.{cases_Bool}
 use Rattle.std.proofs.lemmas.List.{append-nil, length-append, length-replicate}
+use Rattle.std.proofs.lemmas.List.Folds.{list_any-append}
 use Rattle.std.specs.List.{list_any}
 use Rattle.drvhost_devices.specs.Answer.{is_last}
 use Rattle.answer_views.specs.declared.page.Page.{Page}
@@ -9,7 +10,7 @@ use Rattle.drvhost_devices.specs.declared.manner.Detail.{Detail}
 use Rattle.answer_views.specs.declared.telling.Telling.{Telling}
 use Rattle.answer_runs.specs.Repeats.{RepeatsBy}
 use Rattle.answer_views.specs.Seen.{HappensBefore}
-use Rattle.answer_views.specs.Told.{InRuns, IsTelling, IsTold, LedgerGoesOn, Occurrence, ToldTimes, happens_again, has_occurred, is_left_out, is_refused, occurrences, occurs, occurs_in, times_of, told_line}
+use Rattle.answer_views.specs.Told.{InRuns, IsTelling, IsTold, Occurrence, ToldTimes, happens_again, has_occurred, is_left_out, occurrences, occurs, occurs_in, times_of, told_line}
 use Rattle.answer_runs.specs.Watching.{Takes, TellsOn}
 use Rattle.answer_runs.proofs.Following.{run_more}
 use Rattle.answer_runs.proofs.Observing.{replies_told, takes_same}
@@ -29,19 +30,9 @@ use Rattle.tell_uses.specs.declared.acting.Acting.{Acting}
 use Rattle.tell_uses.specs.Acting.{acting_in}
 use Rattle.tell_uses.specs.Ledger.{LedgerState, Tells as TellsRun}
 use Rattle.tell_words.specs.declared.line.Happened.{Happened}
+use Rattle.tell_json.specs.Telling.{LedgerGoesOn, is_refused}
 
--- whether any of several is so
-any_on : (f : Reply → Bool) (some more : List Reply)
-    → list_any f (some ++ more) ≡ list_any f some || list_any f more
-any_on f [] more = refl
-any_on f (reply ∷ some) more =
-    ap (λ (b : Bool). f reply || b) (any_on f some more)
-    ∙ or_assoc (f reply) (list_any f some) (list_any f more)
-  where
-    or_assoc : (a b c : Bool) → a || (b || c) ≡ (a || b) || c
-    or_assoc true b c = refl
-    or_assoc false b c = refl
-
+-- whether any of several that are the same is so
 any_same : (f : Reply → Bool) (count : ℕ) (reply : Reply) → 1 ≤ count
     → list_any f (replicate count reply) ≡ f reply
 any_same f zero reply some = absurd (omega (arith, some))
@@ -208,8 +199,8 @@ module _ (m n : Machine) (e : Event) (reply : Reply) (count : ℕ) (ran : Applie
             (subst (λ (x : LedgerState). TellsRun (run m.set threads (past ++ replicate count e)) x)
             (sym stayed)
             (tell_again m n e reply ran law same l
-            (subst (λ (x : LedgerState). LedgerGoesOn m e l x) stayed noted) count threads past shows
-            tells)))
+            (subst (λ (x : LedgerState). LedgerGoesOn m e l x) stayed noted) count threads past
+            shows tells)))
         | inr one ↦ rw one (noted threads past shows tells)
       ]
 
@@ -217,7 +208,7 @@ module _ (m n : Machine) (e : Event) (reply : Reply) (count : ℕ) (ran : Applie
 abbrev pub ToldBehind : Machine → Event → ℕ → Page → List ℕ → Type 0
 ToldBehind m e count old more =
     (threads : ℕ) (past : List Event) → ShowsWhole m threads past
-    → (added : List ℕ) × (more ≡ old.text ++ added)
+    → (added : List ℕ) × (more ≡ old.text.items ++ added)
     × IsTold old.detail old.number
     (occurrences m.set (run m.set threads past) (replicate count e)) added
 
@@ -230,11 +221,11 @@ module _ (m n : Machine) (e : Event) (reply : Reply) (count : ℕ) (old new : Te
     (tells : (threads : ℕ) (past : List Event) → ShowsWhole m threads past
     → TellsRun (run m.set threads past) old.sight.ledger
     → TellsRun (run m.set threads (past ++ replicate count e)) new.sight.ledger)
-    (told : ToldBehind m e count old.page new.page.text) where
+    (told : ToldBehind m e count old.page new.page.text.items) where
   all_told : (start : Telling) (threads : ℕ) (past : List Event) → ShowsWhole m threads past
       → IsTelling start old m.set threads past
       → IsTold new.page.detail 0
-      (occurrences m.set (begun m.set threads) (past ++ replicate count e)) new.page.text
+      (occurrences m.set (begun m.set threads) (past ++ replicate count e)) new.page.text.items
   all_told start threads past shows t =
       let before = occurrences m.set (begun m.set threads) past in
       let behind = occurrences m.set (run m.set threads past) (replicate count e) in
@@ -242,12 +233,12 @@ module _ (m n : Machine) (e : Event) (reply : Reply) (count : ℕ) (old new : Te
       let place : old.page.number ≡ 0 + length before =
       omega (arith, t.numbered, length_occurrences m.set (begun m.set threads) past) in
       let (added, is, lines) = told threads past shows in
-      let whole : IsTold old.page.detail 0 (before ++ behind) (old.page.text ++ added) =
-      told_on old.page.detail 0 before behind old.page.text added t.told
+      let whole : IsTold old.page.detail 0 (before ++ behind) (old.page.text.items ++ added) =
+      told_on old.page.detail 0 before behind old.page.text.items added t.told
       (subst (λ (k : ℕ). IsTold old.page.detail k behind added) place lines) in
-      subst (λ (d : Detail). IsTold d 0 all new.page.text) (sym detail)
+      subst (λ (d : Detail). IsTold d 0 all new.page.text.items) (sym detail)
       (subst (λ (x : List ℕ). IsTold old.page.detail 0 all x) (sym is)
-      (subst (λ (x : List Occurrence). IsTold old.page.detail 0 x (old.page.text ++ added))
+      (subst (λ (x : List Occurrence). IsTold old.page.detail 0 x (old.page.text.items ++ added))
       (sym (occurrences_on m.set (begun m.set threads) past (replicate count e))) whole))
 
   all_refused : (start : Telling) (threads : ℕ) (past : List Event) → ShowsWhole m threads past
@@ -263,7 +254,7 @@ module _ (m n : Machine) (e : Event) (reply : Reply) (count : ℕ) (old new : Te
       refuses ∙ ap (λ (b : Bool). b || is_refused reply) t.refused
       ∙ ap (λ (b : Bool). list_any is_refused before || b)
       (sym (any_same is_refused count reply some))
-      ∙ sym (any_on is_refused before behind)
+      ∙ sym (list_any-append is_refused before behind)
       ∙ sym (ap (λ (x : List Reply). list_any is_refused x) all)
 
   pub telling_on : TellsOn (λ (x : Machine). x.set) ShowsWhole IsTelling IsTelling m old new
@@ -290,14 +281,14 @@ pub telling_next : WaitingChangesNothing → (m n : Machine) (e : Event) (reply 
     → (says_unchanged reply ≡ true → new.sight.ledger ≡ old.sight.ledger)
     → new.page.detail ≡ old.page.detail → new.page.number ≡ old.page.number + made
     → new.refused ≡ old.refused || is_refused reply
-    → InRuns m (ToldTimes old.page.detail old.page.number (occurs_in m e reply) made old.page.text
-    new.page.text)
+    → InRuns m (ToldTimes old.page.detail old.page.number (occurs_in m e reply) made
+    old.page.text.items new.page.text.items)
     → TellsOn (λ (x : Machine). x.set) ShowsWhole IsTelling IsTelling m old new (replicate made e)
 telling_next law m n e reply count made old new some is ran noted kept detail number refuses told =
     subst (λ (k : ℕ). TellsOn (λ (x : Machine). x.set) ShowsWhole IsTelling IsTelling m old new
     (replicate k e)) (sym is)
-    (telling_on m n e reply (times_of reply count) old new (ran_times m n e reply count ran law some)
-    (some_times m n e reply count ran law some) detail
+    (telling_on m n e reply (times_of reply count) old new
+    (ran_times m n e reply count ran law some) (some_times m n e reply count ran law some) detail
     (number ∙ ap (λ k. old.page.number + k) is) refuses
     (tell_times m n e reply count ran law some old.sight.ledger new.sight.ledger noted kept)
     (λ threads past shows.
@@ -312,20 +303,20 @@ telling_next law m n e reply count made old new some is ran noted kept detail nu
 -- it goes on from a state in which as much is known, of a machine that is the same
 pub telling_from : (m k : Machine) (events : List Event) (old mid new : Telling) → k ≡ m
     → mid.page.detail ≡ old.page.detail → mid.page.number ≡ old.page.number
-    → mid.page.text ≡ old.page.text → mid.refused ≡ old.refused
+    → mid.page.text.items ≡ old.page.text.items → mid.refused ≡ old.refused
     → mid.sight.ledger ≡ old.sight.ledger
     → TellsOn (λ (x : Machine). x.set) ShowsWhole IsTelling IsTelling k mid new events
     → TellsOn (λ (x : Machine). x.set) ShowsWhole IsTelling IsTelling m old new events
 telling_from m k events old mid new same detail number text refused ledger on =
-    subst (λ (x : Machine). TellsOn (λ (y : Machine). y.set) ShowsWhole IsTelling IsTelling x old new
-    events) same
+    subst (λ (x : Machine). TellsOn (λ (y : Machine). y.set) ShowsWhole IsTelling IsTelling x old
+    new events) same
     (λ start threads past shows t.
     let all = occurrences k.set (begun k.set threads) past in
     let there : IsTelling start mid k.set threads past =
     record {
       detail = detail ∙ t.detail;
       numbered = number ∙ t.numbered;
-      told = subst (λ (d : Detail). IsTold d 0 all mid.page.text) (sym detail)
+      told = subst (λ (d : Detail). IsTold d 0 all mid.page.text.items) (sym detail)
           (subst (λ (x : List ℕ). IsTold old.page.detail 0 all x) (sym text) t.told);
       refused = refused ∙ t.refused;
       tells = subst (λ (l : LedgerState). TellsRun (run k.set threads past) l) (sym ledger)

@@ -1,4 +1,3 @@
 pub mod Seen
 pub mod Told
-pub mod Stored
-pub mod Lines
+pub mod InJson

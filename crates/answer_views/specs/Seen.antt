@@ -10,7 +10,8 @@ use Rattle.tell_uses.specs.Acts.{use_step}
 use Rattle.tell_uses.specs.Plain.{is_plain}
 use Rattle.drvhost_devices.specs.declared.manner.Detail.{Detail}
 use Rattle.answer_views.specs.declared.seeing.Sight.{Sight}
-use Rattle.answer_views.specs.Told.{LedgerGoesOn, is_left_out}
+use Rattle.answer_views.specs.Told.{is_left_out}
+use Rattle.tell_json.specs.Telling.{LedgerGoesOn}
 use Rattle.tell_words.specs.declared.line.Happened.{Happened}
 
 -- a reply that says that a step was made

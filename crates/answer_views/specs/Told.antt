@@ -1,12 +1,13 @@
 -- What `tell` answers: the trace of a run with words behind the reply of each event, and its audit;
 -- and what `draw` does: a picture of the run.
-use Rattle.std.specs.Prelude.{ℕ, ⊤, ◌≡◌, ◌+◌, ◌++◌, ◌||◌, Bool, true, false, if◌then◌else◌, List, [], ◌∷◌, codes, length, replicate, Option, None, Result, Ok, Err}
+use Rattle.std.specs.Prelude.{ℕ, ◌≡◌, ◌+◌, ◌++◌, ◌||◌, Bool, true, false, if◌then◌else◌, List, [], ◌∷◌, ◌-◌, codes, length, replicate, take, Option, None, Result, Ok, Err}
 use Rattle.std.specs.List.{list_any}
 use Rattle.tell_audit.specs.Findings.{has_findings}
 use Rattle.tell_uses.specs.declared.acting.Acting.{Acting}
 use Rattle.tell_uses.specs.Acting.{acting_in}
 use Rattle.tell_uses.specs.Computing.{computes}
-use Rattle.tell_uses.specs.Ledger.{LedgerState, Tells as TellsRun}
+use Rattle.tell_json.specs.Telling.{is_refused}
+use Rattle.tell_uses.specs.Ledger.{Tells as TellsRun}
 use Rattle.tell_words.specs.declared.line.Happened.{Happened}
 use Rattle.checked.specs.GoingOn.{GoesOn}
 use Rattle.interleave.specs.declared.schedule.Schedule.{Schedule}
@@ -26,22 +27,19 @@ use Rattle.report.specs.Fault.{schedule_fault_line}
 use Rattle.report.specs.Reply.{worded_line}
 use Rattle.drvhost_devices.specs.declared.fault.End.{End}
 use Rattle.drvhost_devices.specs.declared.fault.End.TheVariants.{Complete, Stopped}
-use Rattle.drvhost_devices.specs.declared.fault.Fault.{Fault}
-use Rattle.drvhost_devices.specs.declared.fault.Fault.TheVariants.{Read, Write, Memory, Text, Image, Schedule as OfSchedule, Script as OfScript}
-use Rattle.answer_views.specs.declared.show.Showing.{Showing}
-use Rattle.answer_views.specs.declared.show.Showing.TheVariants.{InWords, Drawn}
 use Rattle.drvhost_devices.specs.Strict.{fails_strictly}
 use Rattle.drvhost_devices.specs.declared.figure.Figure.{Figure}
 use Rattle.drvhost_devices.specs.declared.manner.Detail.{Detail}
 use Rattle.drvhost_devices.specs.declared.manner.Detail.TheVariants.{Every, Usual, Quiet}
 use Rattle.drvhost_devices.specs.declared.manner.Manner.{Manner}
 use Rattle.drvhost_devices.specs.declared.manner.Strictness.{Strictness}
-use Rattle.answer_views.specs.declared.telling.Told.{Told}
 use Rattle.answer_views.specs.declared.telling.Telling.{Telling}
 use Rattle.drvhost_devices.specs.declared.verification.Verification.{Verification}
-use Rattle.drvhost_devices.specs.Answer.{Answer, IsTraced, ended, faulty, is_last, shown_replies}
-use Rattle.drvhost_devices.specs.Device.{Holds, Supply}
-use Rattle.drvhost_devices.specs.Ends.{IsOfSupply}
+use Rattle.drvhost_devices.specs.Answer.{Answer, ended, faulty, is_last, shown_replies}
+use Rattle.drvhost_devices.specs.Device.{Supply}
+use Rattle.answer.specs.contracts.as_text.TextForm.TheImpl.{ghosts as text_form}
+use Rattle.answer.specs.declared.as_text.Text.{Text}
+use Rattle.answer.specs.Run.{IsRunOf}
 use Rattle.answer_runs.specs.Watching.{until_end}
 
 -- a reply that only says that a step was made, or that there was nothing to do
@@ -87,6 +85,10 @@ occurs acting reply = record { acting = acting; reply = reply }
 abbrev pub told_line : Detail → ℕ → Occurrence → List ℕ → List ℕ
 told_line detail number o words =
     if is_left_out detail o.acting o.reply then [] else worded_line number o.reply words
+
+-- a line with words before its end
+abbrev pub headed : List ℕ → List ℕ → List ℕ
+headed line words = take (length line - 1) line ++ (words ++ 10 ∷ [])
 
 -- what is told of events, the first of which has this number: of each a line with some words, or
 -- nothing
@@ -141,12 +143,6 @@ ToldTimes detail number o times text more =
 abbrev pub InRuns : Machine → Type 0 → Type 0
 InRuns m A = (threads : ℕ) (events : List Event) → ShowsWhole m threads events → A
 
--- a ledger that tells a run that a machine shows becomes one that tells it with an event added
-abbrev pub LedgerGoesOn : Machine → Event → LedgerState → LedgerState → Type 0
-LedgerGoesOn m e l k =
-    (threads : ℕ) (events : List Event) → ShowsWhole m threads events
-    → TellsRun (run m.set threads events) l → TellsRun (run m.set threads (events ++ e ∷ [])) k
-
 -- an event was applied so many times, each time as a step that changes nothing but the activation
 -- on its thread's top; never, where it is no step
 abbrev pub GoesAlone : Event → Machine → ℕ → Machine → Type 0
@@ -189,18 +185,6 @@ world_by set threads events = (run_by set threads events).world
 abbrev pub past_by : Set → ℕ → List Event → List Entry
 past_by set threads events = (run_by set threads events).past
 
--- a reply to an event that was refused
-abbrev pub is_refused : Reply → Bool
-is_refused Refused = true
-is_refused (Started packet) = false
-is_refused Stepped = false
-is_refused Finished = false
-is_refused (Topped packet status info) = false
-is_refused Waited = false
-is_refused Idle = false
-is_refused (Bug bug) = false
-is_refused (Wrong place) = false
-
 -- how a run that is told ends: stopped also where its audit finds anything amiss, and, if it is
 -- told strictly, where an event was refused
 abbrev pub told_end : Strictness → Set → ℕ → List Event → End
@@ -226,51 +210,40 @@ pub record IsRunDrawn (set : Set) (threads : ℕ) (events : List Event) (answer 
   pub is : answer ≡ ended (if list_any is_last (replies_by set threads events)
       then Stopped else Complete) picture
 
--- a run is shown in words, or as a picture
-abbrev pub IsRunShown : Showing → Set → ℕ → List Event → Answer → Type 0
-IsRunShown (InWords manner) set threads events answer = IsRunTold manner set threads events answer
-IsRunShown (Drawn figure) set threads events answer = IsRunDrawn set threads events answer
+-- answers are said as text
+abbrev pub as_text : Text
+as_text = record {}
 
--- or the fault of the schedule is told, with some words behind its line
-abbrev pub IsScheduleShown : Showing → Set → Result Schedule ScheduleFault → Answer → Type 0
-IsScheduleShown showing set (Ok schedule) answer =
-    IsRunShown showing set schedule.threads schedule.events answer
-IsScheduleShown showing set (Err fault) answer =
+-- the run of a set by a schedule is shown, where these are the right answers for a run; or the
+-- fault of the schedule is told, with some words behind its line
+abbrev pub IsScheduleShown : (Set → ℕ → List Event → Answer → Type 0) → Set
+    → Result Schedule ScheduleFault → Answer → Type 0
+IsScheduleShown IsShown set (Ok schedule) answer =
+    IsShown set schedule.threads schedule.events answer
+IsScheduleShown IsShown set (Err fault) answer =
     (words : List ℕ) × (answer ≡ faulty (schedule_fault_line fault ++ words))
 
--- what is shown of a run of a set by the schedule that a source has
-abbrev pub IsShownRunOf : Showing → Supply → Set → Answer → Type 0
-IsShownRunOf showing supply set answer =
-    (schedule : List ℕ) × Holds supply schedule
-    × IsScheduleShown showing set (schedule_in schedule) answer
+-- by the schedule that these bytes list
+abbrev pub IsShownBy : (Set → ℕ → List Event → Answer → Type 0) → Set → List ℕ → Answer → Type 0
+IsShownBy IsShown set schedule answer =
+    IsScheduleShown IsShown set (schedule_in schedule) answer
 
--- what is answered for what the sources have where a run is shown: the schedule's is read for a
--- run alone
-abbrev pub IsShownOf : Verification → Showing → Supply → Supply → Answer → Type 0
-IsShownOf verification showing supply schedule answer =
-    IsOfSupply (IsTraced verification (IsShownRunOf showing schedule)) supply answer
+-- what is answered as text for what the files of a set and of a schedule have, where a run is
+-- shown so: the schedule's is read for a run alone
+abbrev pub IsShownOf : Verification → (Set → ℕ → List Event → Answer → Type 0) → Supply → Supply
+    → Answer → Type 0
+IsShownOf verification IsShown set schedule answer =
+    IsRunOf text_form as_text [] verification (λ bytes found given. IsShownBy IsShown found given)
+    set schedule answer
 
 -- what `tell` answers, and what `draw` does
 abbrev pub IsTellOf : Verification → Manner → Supply → Supply → Answer → Type 0
-IsTellOf verification manner supply schedule answer =
-    IsShownOf verification (InWords manner) supply schedule answer
+IsTellOf verification manner set schedule answer =
+    IsShownOf verification (IsRunTold manner) set schedule answer
 
 abbrev pub IsDrawOf : Verification → Figure → Supply → Supply → Answer → Type 0
-IsDrawOf verification figure supply schedule answer =
-    IsShownOf verification (Drawn figure) supply schedule answer
-
--- a text was made, and with the way that the job ends it is a right answer; or a schedule is rightly
--- told as faulty, whatever words stand behind its line, or a read failed or memory ran out
-abbrev pub Tells : (Answer → Type 0) → Result Told Fault → Type 0
-Tells Right (Ok told) = Right (ended told.end told.text)
-Tells Right (Err (OfSchedule fault)) =
-    (words : List ℕ) → Right (faulty (schedule_fault_line fault ++ words))
-Tells Right (Err Read) = ⊤
-Tells Right (Err Memory) = ⊤
-Tells Right (Err Write) = ⊥
-Tells Right (Err (Text fault)) = ⊥
-Tells Right (Err (Image fault)) = ⊥
-Tells Right (Err (OfScript fault)) = ⊥
+IsDrawOf verification figure set schedule answer =
+    IsShownOf verification IsRunDrawn set schedule answer
 
 -- what is known where these events of a run were told: their lines, whether one was refused, and
 -- their uses
@@ -278,6 +251,8 @@ pub record IsTelling (start now : Telling) (set : Set) (threads : ℕ) (past : L
   where
     pub detail : now.page.detail ≡ start.page.detail
     pub numbered : now.page.number ≡ length past
-    pub told : IsTold now.page.detail 0 (occurrences set (begun set threads) past) now.page.text
+    pub told :
+        IsTold now.page.detail 0 (occurrences set (begun set threads) past)
+        now.page.text.items
     pub refused : now.refused ≡ list_any is_refused (replies set threads past)
     pub tells : TellsRun (run set threads past) now.sight.ledger

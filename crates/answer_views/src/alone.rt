@@ -5,12 +5,11 @@ ghost use Rattle.checked.specs.GoingOn.{GoesOn};
 ghost use Rattle.answer_views.specs.Told.{GoesAlone, ToldAlone, ToldOnce, unknown_step};
 
 use crate::levels::FEW;
-use crate::page::{Page, length_of, words_of};
+use crate::page::Page;
 use checked::Checked;
 use drvhost_devices::manner::Detail;
 use model::event::{Event, Reply};
 use model::view::FrameView;
-use report::word::Word;
 use std::alloc::AllocError;
 use tell_uses::standing::top_frame;
 
@@ -33,9 +32,9 @@ impl<'a> Page<'a> {
         ensures number { IfOk result (λ made. self.new.number ≡ self.old.number + made) }
         ensures goes { IfOk result (λ made. GoesAlone event.now machine.old made machine.new) }
         ensures told { IfOk result (λ made. 1 ≤ made → ToldAlone self.old.detail self.old.number
-            made self.old.text self.new.text) }
+            made self.old.text.items self.new.text.items) }
         ensures none { IfOk result (λ made. made ≡ 0
-            → (machine.new ≡ machine.old) × (self.new.text ≡ self.old.text)) }
+            → (machine.new ≡ machine.old) × (self.new.text.items ≡ self.old.text.items)) }
     {
         let Event::Step { thread } = *event else {
             return Ok(0);
@@ -67,9 +66,9 @@ impl<'a> Page<'a> {
         ensures number { IfOk result (λ made. self.new.number ≡ self.old.number + made) }
         ensures goes { IfOk result (λ made. GoesOn thread machine.old made machine.new) }
         ensures told { IfOk result (λ made. ToldAlone Detail.Every self.old.number made
-            self.old.text self.new.text) }
+            self.old.text.items self.new.text.items) }
         ensures none { IfOk result (λ made. made ≡ 0
-            → (machine.new ≡ machine.old) × (self.new.text ≡ self.old.text)) }
+            → (machine.new ≡ machine.old) × (self.new.text.items ≡ self.old.text.items)) }
     {
         for made in 0..most {
             if self.tell_step(machine, thread)? == 0 {
@@ -89,9 +88,9 @@ impl<'a> Page<'a> {
         ensures number { IfOk result (λ made. self.new.number ≡ self.old.number + made) }
         ensures goes { IfOk result (λ made. GoesOn thread machine.old made machine.new) }
         ensures told { IfOk result (λ made. 1 ≤ made → ToldOnce Detail.Every self.old.number
-            unknown_step self.old.text self.new.text) }
+            unknown_step self.old.text.items self.new.text.items) }
         ensures none { IfOk result (λ made. made ≡ 0
-            → (machine.new ≡ machine.old) × (self.new.text ≡ self.old.text)) }
+            → (machine.new ≡ machine.old) × (self.new.text.items ≡ self.old.text.items)) }
     {
         let Some(place) = top_place(machine, thread) else {
             return Ok(0);
@@ -99,17 +98,9 @@ impl<'a> Page<'a> {
         if machine.go_on(thread, 1) == 0 {
             return Ok(0);
         }
-        let head = self
-            .number
-            .digits()
-            .saturating_add(length_of(Word::Stepped));
+        let head = self.begin_line(&Reply::Stepped);
         self.teller.tell_alone(head, thread, place, machine)?;
-        self.text.add_line(
-            &mut self.number,
-            &Reply::Stepped,
-            Word::Stepped,
-            words_of(&self.teller),
-        )?;
+        self.end_line()?;
         Ok(1)
     }
 }

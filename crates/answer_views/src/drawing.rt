@@ -4,11 +4,9 @@ ghost use Rattle.std.specs.Prelude.{◌≡◌, [], IfOk, ⊤};
 ghost use Rattle.interleave.specs.Listing.{IsWithinLimits};
 ghost use Rattle.drvhost_devices.specs.declared.fault.Fault.TheVariants.{Memory};
 ghost use Rattle.model.specs.Machine.{ShowsWhole};
-ghost use Rattle.drvhost_devices.specs.Answer.{ended};
 ghost use Rattle.answer_views.specs.Told.{IsRunDrawn};
 
-use crate::kept::ToldLines;
-use crate::telling::Told;
+use answer::as_text::ended;
 use answer_runs::follow::is_last;
 use answer_runs::running::Machine;
 use answer_runs::watching::{Observer, Taken, observe};
@@ -17,6 +15,7 @@ use draw_picture::{Drawing, Seen, add_picture};
 use draw_tracks::Tracks;
 use drvhost_devices::fault::Fault;
 use drvhost_devices::figure::Figure;
+use drvhost_devices::told::Told;
 use interleave::schedule::Schedule;
 use model::event::{Event, Reply};
 use std::alloc::{AllocError, Global};
@@ -36,15 +35,15 @@ pub(crate) fn draw_run(
 ) -> Result<Told, AllocError>
     requires begun { ShowsWhole machine.old schedule.now.threads [] }
     requires limits { IsWithinLimits schedule.now }
-    ensures { IfOk result (λ told. IsRunDrawn machine.old.set schedule.now.threads
-        schedule.now.events (ended told.end told.text)) }
+    ensures { IfOk result
+        (IsRunDrawn machine.old.set schedule.now.threads schedule.now.events) }
 {
     let mut painter = Painter::of(alloc, source, machine, figure)?;
     match observe(machine, schedule, &mut painter) {
-        Ok(end) => Ok(Told {
-            text: painter.into_text(alloc)?,
-            end,
-        }),
+        Ok(end) => {
+            let picture = painter.into_text(alloc)?;
+            Ok(ended(alloc, end, picture))
+        }
         Err(_fault) => {
             drop(painter);
             Err(AllocError)
@@ -132,10 +131,10 @@ impl<'a> Painter<'a> {
     }
 
     /// The text of what was drawn.
-    fn into_text(self, alloc: Global) -> Result<ToldLines, AllocError> {
+    fn into_text(self, alloc: Global) -> Result<Vec<u8>, AllocError> {
         let Painter { canvas, book, .. } = self;
         drop(book);
-        ToldLines::of_bytes(alloc, canvas.into_text(alloc)?)
+        canvas.into_text(alloc)
     }
 
     /// Draws the next event: the moment before it, what the machine replied, and the machine after

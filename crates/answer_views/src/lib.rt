@@ -1,18 +1,16 @@
-//! A run shown to people, over any devices: told in words, or drawn as a picture. Both watch the
-//! loop that runs a driver set by a schedule. What is told stands in memory until it is written, kept
-//! short: words that come again stand once (`kept`).
+//! A run shown to people, or to programs: told in words or as lines of JSON, or drawn as a picture.
+//! Each is a job on a run, and watches the loop that runs a driver set by a schedule. The whole
+//! text stands in memory.
 #![tactic(auto)]
 
 mod alone;
+mod begun;
 pub mod draw;
 mod drawing;
-mod kept;
+mod events;
+pub mod in_json;
 mod levels;
 mod page;
-mod piece;
 mod seeing;
-mod show;
-mod stored;
 pub mod tell;
 mod telling;
-mod writing;

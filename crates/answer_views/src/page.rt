@@ -1,21 +1,23 @@
 //! What is told of the events of a run, line by line.
 
-ghost use Rattle.std.specs.Prelude.{◌≡◌, ◌+◌, ◌++◌, ◌<◌, ◌≤◌, ◌^◌, List, [], ℕ, IfOk, OnOk, Some};
-ghost use Rattle.report.specs.Reply.{worded_line};
-ghost use Rattle.report.specs.Word.{word_of};
+ghost use Rattle.std.specs.Prelude.{◌≡◌, ◌+◌, ◌++◌, ◌<◌, ◌≤◌, ◌^◌, List, [], ℕ, IfOk, OnOk};
+ghost use Rattle.report.specs.Reply.{reply_line, worded_line};
 ghost use Rattle.tell_words.specs.Noted.{noted};
-ghost use Rattle.answer_views.specs.Told.{ToldOnce, ToldTimes, has_occurred};
+ghost use Rattle.answer_views.specs.Told.{ToldOnce, ToldTimes, has_occurred, headed};
 
-use crate::kept::{ToldLines, Words};
 use crate::levels::is_left_out;
 use checked::Checked;
 use drvhost_devices::manner::Detail;
+use model::event::Reply;
 use report::event_number::EventNumber;
 use report::lines::Lines;
-use report::word::Word;
 use std::alloc::{AllocError, Global};
 use std::mem::drop;
 use tell_words::{Happened, Teller};
+
+/// For how many bytes there is room for each event: memory that grows is copied, and touched for
+/// the first time once more, and memory that nobody touches costs nothing.
+const ROOM_FOR_LINE: usize = 96;
 
 /// The text of a run that is told, and what its lines are made with.
 #[derive(Drop)]
@@ -26,9 +28,9 @@ pub(crate) struct Page<'a> {
     pub(crate) teller: Teller<'a>,
     /// The number of the event that comes next.
     pub(crate) number: EventNumber,
-    /// Room for a line that no word tells.
-    pub(crate) lines: &'a mut Lines,
-    pub(crate) text: ToldLines,
+    /// The line of the trace for an event that is being told.
+    pub(crate) lines: Lines,
+    pub(crate) text: Vec<u8>,
 }
 
 impl<'a> Page<'a> {
@@ -38,34 +40,34 @@ impl<'a> Page<'a> {
         source: &'a [u8],
         events: usize,
         detail: Detail,
-        lines: &'a mut Lines,
     ) -> Result<Page<'a>, AllocError>
         ensures detail { IfOk result (λ page. page.detail ≡ detail) }
         ensures number { IfOk result (λ page. page.number ≡ 0) }
-        ensures text { IfOk result (λ page. page.text ≡ []) }
+        ensures text { IfOk result (λ page. page.text.items ≡ []) }
     {
-        let teller = Teller::of(alloc, source)?;
-        match ToldLines::new(alloc, events) {
-            Ok(text) => Ok(Page {
-                detail,
-                teller,
-                number: EventNumber::first(),
-                lines,
-                text,
-            }),
-            Err(lacking) => {
-                drop(teller);
-                Err(lacking)
-            }
-        }
+        let text = Vec::with_capacity(alloc, events.saturating_mul(ROOM_FOR_LINE))?;
+        let lines = Lines::new(alloc)?;
+        Ok(Page {
+            detail,
+            teller: Teller::of(alloc, source)?,
+            number: EventNumber::first(),
+            lines,
+            text,
+        })
     }
 
     /// What was told.
-    pub(crate) fn into_text(self) -> ToldLines
+    pub(crate) fn into_text(self) -> Vec<u8>
         ensures { result ≡ self.entry.text }
     {
-        let Page { teller, text, .. } = self;
+        let Page {
+            teller,
+            lines,
+            text,
+            ..
+        } = self;
         drop(teller);
+        drop(lines);
         text
     }
 
@@ -81,7 +83,7 @@ impl<'a> Page<'a> {
         ensures detail { OnOk result (self.new.detail ≡ self.old.detail) }
         ensures number { OnOk result (self.new.number ≡ self.old.number + count) }
         ensures told { OnOk result (ToldTimes self.old.detail self.old.number
-            (has_occurred happened.now) count self.old.text self.new.text) }
+            (has_occurred happened.now) count self.old.text.items self.new.text.items) }
     {
         self.tell_seen(machine, happened)?;
         self.tell_again(machine, happened, count - 1)?;
@@ -97,7 +99,7 @@ impl<'a> Page<'a> {
         ensures refused { OnOk result
             (self.new.teller ≡ noted self.old.teller self.old.number happened.now.reply) }
         ensures told { OnOk result (ToldOnce self.old.detail self.old.number
-            (has_occurred happened.now) self.old.text self.new.text) }
+            (has_occurred happened.now) self.old.text.items self.new.text.items) }
     {
         self.teller.note(self.number.value(), happened, machine)?;
         self.add_event(machine, happened)
@@ -114,45 +116,16 @@ impl<'a> Page<'a> {
         ensures detail { OnOk result (self.new.detail ≡ self.old.detail) }
         ensures number { OnOk result (self.new.number ≡ self.old.number + count) }
         ensures told { OnOk result (ToldTimes self.old.detail self.old.number
-            (has_occurred happened.now) count self.old.text self.new.text) }
+            (has_occurred happened.now) count self.old.text.items self.new.text.items) }
     {
         if is_left_out(self.detail, happened) {
             self.number.advance_many(count as u64);
             return Ok(());
         }
-        let mut left = count;
-        while left > 0 {
-            let head = self.lines.head_length(&mut self.number, &happened.reply);
-            self.make_words(machine, happened, head)?;
-            let some = as_long(&self.number, left);
-            self.text.add_again(
-                self.lines,
-                &mut self.number,
-                &happened.reply,
-                words_of(&self.teller),
-                some,
-            )?;
-            left -= some;
+        for _ in 0..count {
+            self.add_again(machine, happened)?;
         }
         Ok(())
-    }
-
-    /// Makes the words of an event that is told again behind so many bytes: those that were made
-    /// last, where they stand behind as many.
-    fn make_words(
-        &mut self,
-        machine: &Checked,
-        happened: &Happened,
-        head: usize,
-    ) -> Result<(), AllocError>
-        ensures detail { self.new.detail ≡ self.old.detail }
-        ensures number { self.new.number ≡ self.old.number }
-        ensures text { self.new.text ≡ self.old.text }
-    {
-        if self.teller.is_behind(head) {
-            return Ok(());
-        }
-        self.teller.tell(head, happened, machine)
     }
 
     /// Adds what is told of an event, a line unless it is left out, and goes on to the next number.
@@ -162,93 +135,89 @@ impl<'a> Page<'a> {
         ensures detail { OnOk result (self.new.detail ≡ self.old.detail) }
         ensures number { OnOk result (self.new.number ≡ self.old.number + 1) }
         ensures told { OnOk result (ToldOnce self.old.detail self.old.number
-            (has_occurred happened.now) self.old.text self.new.text) }
+            (has_occurred happened.now) self.old.text.items self.new.text.items) }
     {
         if is_left_out(self.detail, happened) {
             self.number.advance();
             return Ok(());
         }
-        match Word::of(&happened.reply) {
-            Some(word) => self.add_worded(machine, happened, word),
-            None => self.add_other(machine, happened),
-        }
-    }
-
-    /// Adds the line of an event that replied a word, and goes on to the next number.
-    fn add_worded(
-        &mut self,
-        machine: &Checked,
-        happened: &Happened,
-        word: Word,
-    ) -> Result<(), AllocError>
-        requires word { word_of happened.now.reply ≡ Some word }
-        requires number { self.old.number + 1 < 2 ^ 64 }
-        ensures kept { OnOk result (self.new.teller ≡ self.old.teller) }
-        ensures detail { OnOk result (self.new.detail ≡ self.old.detail) }
-        ensures number { OnOk result (self.new.number ≡ self.old.number + 1) }
-        ensures told { OnOk result ((words : List ℕ) × (self.new.text
-            ≡ self.old.text ++ worded_line self.old.number happened.now.reply words)) }
-    {
-        let head = self.number.digits().saturating_add(length_of(word));
+        let head = self.begin_line(&happened.reply);
         self.teller.tell(head, happened, machine)?;
-        self.text.add_line(
-            &mut self.number,
-            &happened.reply,
-            word,
-            words_of(&self.teller),
-        )?;
-        Ok(())
+        self.end_line()
     }
 
-    /// Adds the line of an event that replied more, and goes on to the next number.
-    fn add_other(&mut self, machine: &Checked, happened: &Happened) -> Result<(), AllocError>
-        requires number { self.old.number + 1 < 2 ^ 64 }
-        ensures kept { OnOk result (self.new.teller ≡ self.old.teller) }
+    /// Adds the line of an event that is told again, with the words that were made last where they
+    /// stand behind as many bytes.
+    fn add_again(&mut self, machine: &Checked, happened: &Happened) -> Result<(), AllocError>
+        requires { self.old.number + 1 < 2 ^ 64 }
         ensures detail { OnOk result (self.new.detail ≡ self.old.detail) }
         ensures number { OnOk result (self.new.number ≡ self.old.number + 1) }
-        ensures told { OnOk result ((words : List ℕ) × (self.new.text
-            ≡ self.old.text ++ worded_line self.old.number happened.now.reply words)) }
+        ensures told { OnOk result ((words : List ℕ) × (self.new.text.items
+            ≡ self.old.text.items ++ worded_line self.old.number happened.now.reply words)) }
+    {
+        let head = self.begin_line(&happened.reply);
+        make_words(&mut self.teller, head, happened, machine)?;
+        self.end_line()
+    }
+
+    /// Begins the line of an event that replied so, as the trace has it. It answers how many bytes
+    /// stand before its end.
+    #[inline]
+    pub(crate) fn begin_line(&mut self, reply: &Reply) -> usize
+        ensures { self.new
+            ≡ record self.old { lines = reply_line self.old.number reply.now } }
     {
         self.lines.clear();
-        self.lines.reply(&mut self.number, &happened.reply);
-        let head = self.lines.bytes().len().saturating_sub(1);
-        self.teller.tell(head, happened, machine)?;
-        self.text
-            .add_headed(self.lines.bytes(), words_of(&self.teller))?;
+        self.lines.reply(&mut self.number, reply);
+        self.lines.bytes().len().saturating_sub(1)
+    }
+
+    /// Adds the line that was begun, with the words that were made last before its end, and goes on
+    /// to the next number.
+    #[inline]
+    pub(crate) fn end_line(&mut self) -> Result<(), AllocError>
+        requires { self.old.number + 1 < 2 ^ 64 }
+        ensures kept { OnOk result (self.new.teller ≡ self.old.teller) }
+        ensures detail { OnOk result (self.new.detail ≡ self.old.detail) }
+        ensures number { OnOk result (self.new.number ≡ self.old.number + 1) }
+        ensures told { OnOk result ((words : List ℕ) × (self.new.text.items
+            ≡ self.old.text.items ++ headed self.old.lines words)) }
+    {
+        add_headed(
+            &mut self.text,
+            self.lines.bytes(),
+            self.teller.front(),
+            self.teller.words(),
+        )?;
         self.number.advance();
         Ok(())
     }
 }
 
-/// The words that a teller has made last.
-pub(crate) fn words_of<'w>(teller: &'w Teller<'_>) -> Words<'w> {
-    Words {
-        front: teller.front(),
-        rest: teller.words(),
-    }
-}
-
-/// How many bytes stand behind the number of an event that replied a word.
-#[inline]
-pub(crate) fn length_of(word: Word) -> usize {
-    match word {
-        Word::Idle => " idle".len(),
-        Word::Waited => " waited".len(),
-        Word::Stepped => " stepped".len(),
-        Word::Refused => " refused".len(),
-        Word::Finished => " finished".len(),
-    }
-}
-
-/// How many of so many numbers, from this one on, have as many digits.
-fn as_long(number: &EventNumber, most: usize) -> usize
-    requires { 0 < most }
-    ensures some { 0 < result }
-    ensures most { result ≤ most }
+/// Makes the words that stand behind so many bytes, unless those that were made last do.
+fn make_words(
+    teller: &mut Teller<'_>,
+    head: usize,
+    happened: &Happened,
+    machine: &Checked,
+) -> Result<(), AllocError>
+    ensures { OnOk result (teller.new ≡ teller.old) }
 {
-    let longer = 10_u64
-        .checked_pow(number.digits().min(20) as u32)
-        .unwrap_or(u64::MAX);
-    let shorter = longer.saturating_sub(number.value());
-    most.min((shorter as usize).max(1))
+    if teller.is_behind(head) {
+        return Ok(());
+    }
+    teller.tell(head, happened, machine)
+}
+
+/// Adds a line, which is ready but for words in two parts that stand before its end.
+#[inline]
+fn add_headed(text: &mut Vec<u8>, line: &[u8], front: &[u8], rest: &[u8]) -> Result<(), AllocError>
+    ensures { OnOk result
+        (text.new.items ≡ text.old.items ++ headed line.now (front.now ++ rest.now)) }
+{
+    text.extend_from_slice(&line[..line.len().saturating_sub(1)])?;
+    text.extend_from_slice(front)?;
+    text.extend_from_slice(rest)?;
+    text.push(b'\n')?;
+    Ok(())
 }

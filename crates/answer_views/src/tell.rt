@@ -1,19 +1,21 @@
 //! A run told for people, and its audit.
 
-ghost use Rattle.std.specs.Prelude.{◌≡◌, ◌+◌, ◌⊎◌};
-ghost use Rattle.drvhost_devices.specs.Device.{CanCount};
-ghost use Rattle.drvhost_devices.specs.Ends.{HoldsRun};
-ghost use Rattle.drvhost_devices.specs.Ready.{CanAnswer};
-ghost use Rattle.answer_explain.specs.Devices.{AnswersOver};
-ghost use Rattle.answer_views.specs.Told.{IsTellOf};
+ghost use Rattle.std.specs.Prelude.{IfOk};
+ghost use Rattle.interleave.specs.Listing.{IsWithinLimits};
+ghost use Rattle.answer_views.specs.Told.{IsRunTold};
 
-use crate::show::{Showing, Shown};
-use answer_explain::job::answer;
-use answer_explain::judged::Judged;
-use drvhost_devices::device::{Sink, Source};
+use crate::begun::{begin, schedule_of, told_faulty};
+use crate::telling::tell_run;
+use answer::as_text::Text;
+use answer::content::Given;
+use answer::set::OnRun;
 use drvhost_devices::manner::Manner;
+use drvhost_devices::told::Told;
 use drvhost_devices::verification::Verification;
-use std::alloc::Global;
+use image::DriverSet;
+use interleave::schedule::Schedule;
+use std::alloc::{AllocError, Global};
+use std::mem::drop;
 
 /// A run that is to be told: of which sets, and how.
 #[derive(Clone, Copy, Debug, PartialEq, Eq)]
@@ -22,37 +24,57 @@ pub struct Telling {
     pub manner: Manner,
 }
 
-/// Runs a driver set by a schedule as [`trace`](answer_runs::trace::trace) does, and tells the run
-/// in words: for each event of which a line is asked for, the line of the trace with words behind
-/// it, and then an audit of what the run has left. Where verification is required, a refused set
-/// isn't run, and what is written is the line of its refusal. The answer is the exit status: that
+/// The job of telling a run in words: for each event of which a line is asked for, the line of the
+/// trace with words behind it, and then an audit of what the run has left. The exit status is that
 /// of the trace, but 1 also where the audit finds a packet that no place names, a lock that an idle
 /// thread owns, threads that wait in a ring, or a stack location that was returned from otherwise
-/// than it was marked, and, strictly told, where an event was refused. Faults are told on the error
-/// writer, in the order of the trace. Nothing is written before the whole text stands in memory.
-pub fn tell<S: Source, P: Source, O: Sink, E: Sink>(
+/// than it was marked, and, strictly told, where an event was refused.
+#[derive(Clone, Copy)]
+pub struct InWords {
+    pub manner: Manner,
+}
+
+impl OnRun<Text> for InWords {
+    ghost use Rattle.answer_views.specs.Told.{IsRunTold, IsShownBy};
+
+    ghost right = { λ job _ _ _ set _ schedule. IsShownBy (IsRunTold job.manner) set schedule };
+
+    fn on(
+        &self,
+        _form: &Text,
+        alloc: Global,
+        given: &Given<'_>,
+        set: DriverSet,
+        input: &Given<'_>,
+    ) -> Result<Told, AllocError> {
+        match schedule_of(alloc, input.bytes) {
+            Ok(Ok(schedule)) => tell_set(alloc, given.bytes, set, &schedule, self.manner),
+            Ok(Err(fault)) => {
+                drop(set);
+                told_faulty(alloc, input.bytes, fault)
+            }
+            Err(lacking) => {
+                drop(set);
+                Err(lacking)
+            }
+        }
+    }
+}
+
+/// The run of a set by a schedule, told.
+fn tell_set(
     alloc: Global,
-    set: &mut S,
-    schedule: &mut P,
-    telling: Telling,
-    out: &mut O,
-    err: &mut E,
-) -> u8
-    requires devices { CanAnswer O.Sink E.Sink (S.failures set.old) out.old err.old }
-    requires schedule { CanCount (P.failures schedule.old) }
-    ensures unread { (schedule.new ≡ schedule.old)
-        ⊎ HoldsRun telling.verification (S.supply set.old) }
-    ensures answers { AnswersOver O.Sink E.Sink
-        (IsTellOf telling.verification telling.manner (S.supply set.old) (P.supply schedule.old))
-        (S.failures set.old + P.failures schedule.old)
-        (S.failures set.new + P.failures schedule.new) out.old out.new err.old err.new result }
+    bytes: &[u8],
+    set: DriverSet,
+    schedule: &Schedule,
+    manner: Manner,
+) -> Result<Told, AllocError>
+    requires { IsWithinLimits schedule.now }
+    ensures { IfOk result (IsRunTold manner set schedule.now.threads schedule.now.events) }
 {
-    let mut job = Judged {
-        running: Shown {
-            schedule,
-            showing: Showing::InWords(telling.manner),
-        },
-        verification: telling.verification,
-    };
-    answer(&mut job, alloc, set, out, err)
+    let mut begun = begin(alloc, bytes, set, schedule)?;
+    let source = begun.source.as_slice();
+    let told = tell_run(alloc, source, &mut begun.machine, schedule, manner);
+    drop(begun);
+    told
 }

@@ -6,26 +6,27 @@ ghost use Rattle.drvhost_devices.specs.declared.fault.Fault.TheVariants.{Memory}
 ghost use Rattle.drvhost_devices.specs.Answer.{ended};
 ghost use Rattle.answer_views.specs.Seen.{GoesUnseen, Sees};
 ghost use Rattle.answer_views.specs.Told.{InRuns, IsRunTold, IsTelling, ToldTimes};
-ghost use Rattle.answer_views.specs.Told.{is_refused, occurs_in, times_of};
+ghost use Rattle.answer_views.specs.Told.{occurs_in, times_of};
 ghost use Rattle.interleave.specs.Listing.{IsWithinLimits};
 ghost use Rattle.model.specs.Machine.{ShowsWhole};
 ghost use Rattle.model.specs.Set.{Set};
 ghost use Rattle.tell_audit.specs.declared.findings.Findings.{Findings};
 ghost use Rattle.tell_audit.specs.Findings.{AreFindings, any_of};
+ghost use Rattle.tell_json.specs.Telling.{is_refused};
 
-use crate::kept::ToldLines;
 use crate::levels::{at_once, times_of};
 use crate::page::Page;
 use crate::seeing::{Sight, goes_unseen};
+use answer::as_text::ended;
 use answer_runs::follow::is_last;
 use answer_runs::watching::{Observer, Taken, observe};
 use checked::Checked;
 use drvhost_devices::fault::{End, Fault};
 use drvhost_devices::manner::{Detail, Manner};
+use drvhost_devices::told::Told;
 use interleave::schedule::Schedule;
 use laws_runs::waiting_changes_nothing;
 use model::event::{Event, Reply};
-use report::lines::Lines;
 use std::alloc::{AllocError, Global};
 use std::mem::drop;
 use tell_audit::findings::Findings;
@@ -36,13 +37,6 @@ use tell_uses::ledger::Ledger;
 /// What stands before the words of the audit.
 const AUDIT: &[u8] = b"\naudit\n";
 
-/// A text, and how the job ends of which it tells.
-#[derive(Drop)]
-pub(crate) struct Told {
-    pub(crate) text: ToldLines,
-    pub(crate) end: End,
-}
-
 /// Tells the run of a machine by a schedule, up to an event that stops it, and its audit: with the
 /// names and the lines of a text that names its set.
 pub(crate) fn tell_run(
@@ -51,19 +45,15 @@ pub(crate) fn tell_run(
     machine: &mut Checked,
     schedule: &Schedule,
     manner: Manner,
-    lines: &mut Lines,
 ) -> Result<Told, AllocError>
     requires begun { ShowsWhole machine.old schedule.now.threads [] }
     requires limits { IsWithinLimits schedule.now }
-    ensures { IfOk result (λ told. IsRunTold manner machine.old.set schedule.now.threads
-        schedule.now.events (ended told.end told.text)) }
+    ensures { IfOk result (IsRunTold manner machine.old.set schedule.now.threads
+        schedule.now.events) }
 {
-    let mut telling = Telling::of(alloc, source, schedule, manner.detail, lines)?;
+    let mut telling = Telling::of(alloc, source, schedule, manner.detail)?;
     match telling.tell_all(alloc, machine, schedule, manner) {
-        Ok(end) => Ok(Told {
-            text: telling.into_text(),
-            end,
-        }),
+        Ok(end) => Ok(ended(alloc, end, telling.into_text())),
         Err(lacking) => {
             drop(telling);
             Err(lacking)
@@ -73,7 +63,7 @@ pub(crate) fn tell_run(
 
 /// How a run ends that ends so by itself, if it is taken for one that stopped or not, and something
 /// was found amiss or not.
-fn end_of(end: End, strictly: bool, amiss: bool) -> End
+pub(crate) fn end_of(end: End, strictly: bool, amiss: bool) -> End
     ensures { result ≡ (if strictly || amiss then End.Stopped else end) }
 {
     if strictly || amiss { End::Stopped } else { end }
@@ -128,14 +118,13 @@ impl<'a> Telling<'a> {
         source: &'a [u8],
         schedule: &Schedule,
         detail: Detail,
-        lines: &'a mut Lines,
     ) -> Result<Telling<'a>, AllocError>
         ensures begun { IfOk result (λ telling. (set : Set)
             → IsTelling telling telling set schedule.now.threads []) }
         ensures detail { IfOk result (λ telling. telling.page.detail ≡ detail) }
     {
         let ledger = Ledger::new(alloc, schedule.threads)?;
-        match Page::of(alloc, source, schedule.events.len(), detail, lines) {
+        match Page::of(alloc, source, schedule.events.len(), detail) {
             Ok(page) => Ok(Telling {
                 page,
                 sight: Sight::of(alloc, ledger),
@@ -149,7 +138,7 @@ impl<'a> Telling<'a> {
     }
 
     /// What was told.
-    fn into_text(self) -> ToldLines
+    fn into_text(self) -> Vec<u8>
         ensures { result ≡ self.entry.page.text }
     {
         let Telling { page, sight, .. } = self;
@@ -170,7 +159,7 @@ impl<'a> Telling<'a> {
         requires fresh { IsTelling self.old self.old machine.old.set schedule.now.threads [] }
         requires detail { self.old.page.detail ≡ manner.detail }
         ensures { IfOk result (λ end. IsRunTold manner machine.old.set schedule.now.threads
-            schedule.now.events (ended end self.new.page.text)) }
+            schedule.now.events (ended end self.new.page.text.items)) }
     {
         let Ok(end) = observe(machine, schedule, self) else {
             return Err(AllocError);
@@ -186,8 +175,8 @@ impl<'a> Telling<'a> {
             × AreFindings machine.now.set machine.now.world self.old.sight.ledger found
             × (amiss ≡ any_of found.lost.items found.left.items found.ringed.items
             found.disagreeing.items)) }
-        ensures audited { OnOk result ((words : List ℕ) × (self.new.page.text
-            ≡ self.old.page.text ++ (codes "\naudit\n" ++ words))) }
+        ensures audited { OnOk result ((words : List ℕ) × (self.new.page.text.items
+            ≡ self.old.page.text.items ++ (codes "\naudit\n" ++ words))) }
     {
         let found = Findings::of(alloc, machine, &self.sight.ledger)?;
         let told = self.tell_found(alloc, machine, &found);
@@ -204,8 +193,8 @@ impl<'a> Telling<'a> {
         machine: &Checked,
         found: &Findings,
     ) -> Result<(), AllocError>
-        ensures { OnOk result ((words : List ℕ) × (self.new.page.text
-            ≡ self.old.page.text ++ (codes "\naudit\n" ++ words))) }
+        ensures { OnOk result ((words : List ℕ) × (self.new.page.text.items
+            ≡ self.old.page.text.items ++ (codes "\naudit\n" ++ words))) }
     {
         let rights = Rights::of(alloc, machine.set())?;
         let told = self
@@ -242,7 +231,7 @@ impl<'a> Telling<'a> {
             ≡ self.old.refused || is_refused self.new.sight.happened.reply) }
         ensures told { IfOk result (λ times. InRuns machine.old (ToldTimes self.old.page.detail
             self.old.page.number (occurs_in machine.old event.now self.new.sight.happened.reply)
-            times self.old.page.text self.new.page.text)) }
+            times self.old.page.text.items self.new.page.text.items)) }
     {
         let passed = self.sight.see(machine, event, unseen, self.page.detail)?;
         self.refused |= is_refused(&self.sight.happened.reply);
@@ -264,11 +253,11 @@ fn is_refused(reply: &Reply) -> bool
 }
 
 /// Adds the audit of a run: that it is one, and words on it.
-fn add_audit(words: &[u8], text: &mut ToldLines) -> Result<(), AllocError>
+fn add_audit(words: &[u8], text: &mut Vec<u8>) -> Result<(), AllocError>
     ensures { OnOk result
-        (text.new ≡ text.old ++ (codes "\naudit\n" ++ words.now)) }
+        (text.new.items ≡ text.old.items ++ (codes "\naudit\n" ++ words.now)) }
 {
-    text.add_bytes(AUDIT)?;
-    text.add_bytes(words)?;
+    text.extend_from_slice(AUDIT)?;
+    text.extend_from_slice(words)?;
     Ok(())
 }

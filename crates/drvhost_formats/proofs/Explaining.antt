@@ -5,7 +5,6 @@ use Rattle.std.proofs.lemmas.List.{take_all, take_more}
 use Rattle.mend_edits.specs.declared.lines.LineEdit.{LineEdit}
 use Rattle.model.specs.declared.abs.Refusal.{Refusal}
 use Rattle.model.specs.Set.{Set}
-use Rattle.model.specs.Typable.{IsFirstFault}
 use Rattle.report_json.specs.Line.{json_line}
 use Rattle.report_sarif.specs.declared.log.Region.{Region}
 use Rattle.verifier_words.specs.declared.telling.Told.{Told}
@@ -17,10 +16,8 @@ use Rattle.drvhost_evidence.proofs.EachFault.{past_told, told_at, within_told}
 use Rattle.answer_mends.specs.Fix.{IsFix}
 use Rattle.drvhost_devices.specs.declared.extent.Extent.{Extent}
 use Rattle.drvhost_devices.specs.declared.extent.Extent.TheVariants.{First, Each}
-use Rattle.drvhost_formats.specs.declared.outcome.Outcome.TheVariants.{Stopped}
-use Rattle.drvhost_formats.specs.Explain.{AreLinesOf, AreRefusalLines, IsRefusalExplained, IsRefusalLine}
+use Rattle.drvhost_formats.specs.Explain.{AreLinesOf, AreRefusalLines, IsRefusalLine}
 use Rattle.drvhost_formats.specs.Explanation.{Lesson, refusal_explained_json}
-use Rattle.drvhost_formats.specs.Told.{told}
 
 -- the line of a refusal that is shown was added
 pub shown_added : {A E : Type 0} (r : Result A E) (name bytes : List ℕ) (refusal : Refusal)
@@ -78,15 +75,6 @@ pub of_each : {A E : Type 0} (r : Result A E) (extent : Extent) (name bytes : Li
 of_each (Ok a) extent name bytes set refusal old l is (all, text, faults, are, added) =
     rw is (text, (all, faults, are), added)
 of_each (Err e) extent name bytes set refusal old l is h = h
-
--- a refused set, whose lines were added
-pub refused : (extent : Extent) (name bytes : List ℕ) (set : Set) (refusal : Refusal)
-    (old l : List ℕ) → old ≡ [] → IsFirstFault set refusal
-    → ((text : List ℕ) × AreLinesOf extent name bytes set refusal text × (l ≡ old ++ text))
-    → IsRefusalExplained extent name bytes set (told Stopped l)
-refused extent name bytes set refusal old l empty first (text, are, added) =
-    let same : l ≡ text = rw empty at added in
-    (refusal, text, first, are, ap (told Stopped) same)
 
 -- one more line
 pub lines_more : (name bytes : List ℕ) (set : Set) (some : List Refusal) (refusal : Refusal)

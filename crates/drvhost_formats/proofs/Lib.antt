@@ -1,4 +1,2 @@
-pub mod Telling
-pub mod Refusing
-pub mod EventLines
 pub mod Explaining
+pub mod Explained

@@ -10,7 +10,7 @@ use Rattle.report_json.specs.Line.{json_line}
 use Rattle.verifier_evidence.specs.declared.evidence.Evidence.{Evidence}
 use Rattle.verifier_evidence.specs.Evidence.{IsEvidence}
 use Rattle.verifier_words.specs.Faults.{AreFaults}
-use Rattle.drvhost_devices.specs.Answer.{Answer}
+use Rattle.drvhost_devices.specs.Answer.{Answer, ended}
 use Rattle.drvhost_devices.specs.Device.{Supply}
 use Rattle.answer_explain.specs.Explained.{TellsLocks}
 use Rattle.drvhost_evidence.specs.declared.shown.Shown.{Shown}
@@ -19,11 +19,11 @@ use Rattle.drvhost_evidence.specs.Shown.{IsShownBy}
 use Rattle.answer_mends.specs.Fix.{IsFix}
 use Rattle.drvhost_devices.specs.declared.extent.Extent.{Extent}
 use Rattle.drvhost_devices.specs.declared.extent.Extent.TheVariants.{First, Each}
-use Rattle.drvhost_formats.specs.declared.outcome.Outcome.TheVariants.{Complete, Stopped}
+use Rattle.drvhost_devices.specs.declared.fault.End.TheVariants.{Complete, Stopped}
 use Rattle.answer.specs.Check.{certified_routines, with_names}
 use Rattle.drvhost_formats.specs.Explanation.{Lesson, acceptance_explained_json, refusal_explained_json}
 use Rattle.answer.specs.Names.{routine_names}
-use Rattle.drvhost_formats.specs.Told.{IsToldOf, told, told_line}
+use Rattle.answer.specs.Told.{IsToldOf, ended_line}
 
 -- an accepted set: its routines with their names, and words that tell of its drivers' locks
 pub record IsAcceptanceExplained (name bytes : List ℕ) (set : Set) (answer : Answer) : Type 0 where
@@ -32,7 +32,7 @@ pub record IsAcceptanceExplained (name bytes : List ℕ) (set : Set) (answer : A
   pub named : map string_bytes names ≡ map utf8_lossy (routine_names bytes)
   pub words : List ℕ
   pub tells : TellsLocks set words
-  pub is : answer ≡ told_line Complete
+  pub is : answer ≡ ended_line Complete
       (acceptance_explained_json name (with_names (certified_routines set) names) words)
 
 -- the line of a refusal: the rule and its place, what shows it, by its evidence, and edits that mend
@@ -65,7 +65,7 @@ AreLinesOf Each name bytes set refusal text =
 abbrev pub IsRefusalExplained : Extent → List ℕ → List ℕ → Set → Answer → Type 0
 IsRefusalExplained extent name bytes set answer =
     (refusal : Refusal) × (text : List ℕ) × IsFirstFault set refusal
-    × AreLinesOf extent name bytes set refusal text × (answer ≡ told Stopped text)
+    × AreLinesOf extent name bytes set refusal text × (answer ≡ ended Stopped text)
 
 -- the verdict on the set that these bytes of the file of a name are, explained
 abbrev pub IsExplainedJson : Extent → List ℕ → List ℕ → Set → Answer → Type 0

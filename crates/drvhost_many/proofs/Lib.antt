@@ -5,5 +5,6 @@ pub mod Reading
 pub mod Ending
 pub mod Judged
 pub mod Colored
+pub mod Verdicts
 pub mod Alone
 pub mod Gathering

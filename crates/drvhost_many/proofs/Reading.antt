@@ -72,7 +72,8 @@ answered_at judging (f ∷ files) (a ∷ answered) (suc i) one (here, h) less is
       answered = rest.answered;
     }
 
-held_known : (supply : Supply) (bytes : List ℕ) → Holds supply bytes
+-- a source that has bytes may be known by them
+pub held_known : (supply : Supply) (bytes : List ℕ) → Holds supply bytes
     → IsSuppliedAs supply (Bytes bytes)
 held_known Unknown bytes h = tt
 held_known Closed bytes h = absurd h

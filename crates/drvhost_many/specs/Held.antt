@@ -5,7 +5,6 @@ use Rattle.std.specs.Io.KnownBytes.{Appends}
 use Rattle.cli.specs.declared.job.Judging.{Judging}
 use Rattle.drvhost_devices.specs.Answer.{Answer, faulty}
 use Rattle.drvhost_devices.specs.Device.{Bytes, TakesBeginning}
-use Rattle.answer.specs.Told.{IsUnopenedJson}
 use Rattle.drvhost_files.specs.declared.reading.Contents.{Contents}
 use Rattle.drvhost_files.specs.declared.reading.Contents.TheVariants.{Whole, Unread, Unopened, Lacking}
 use Rattle.drvhost_files.specs.declared.reading.Held.{Held}
@@ -14,13 +13,13 @@ use Rattle.drvhost_many.specs.declared.many.Halt.TheVariants.{Memory, Write}
 use Rattle.drvhost_devices.specs.Told.{joined}
 use Rattle.drvhost_many.specs.All.{nothing}
 use Rattle.drvhost_many.specs.Marked.{named_answer, noted}
-use Rattle.drvhost_many.specs.One.{IsJudged}
+use Rattle.drvhost_many.specs.One.{IsJudged, IsUnopenedIn, form_of}
 
 -- what is answered for the file of a name of which this was read
 abbrev pub IsAnswerTo : Judging → List ℕ → Contents → Answer → Type 0
 IsAnswerTo judging name (Whole bytes) answer = IsJudged judging name (Bytes bytes.items) answer
 IsAnswerTo judging name Unread answer = answer ≡ faulty (codes "read failed\n")
-IsAnswerTo judging name Unopened answer = IsUnopenedJson name answer
+IsAnswerTo judging name Unopened answer = IsUnopenedIn (form_of judging) name answer
 IsAnswerTo judging name Lacking answer = ⊥
 
 -- the same, told with its name

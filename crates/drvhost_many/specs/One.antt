@@ -1,11 +1,15 @@
 -- What is answered for one of several files.
 use Rattle.std.specs.Prelude.{ℕ, ◌≡◌, ◌≢◌, ◌+◌, ◌⊎◌, [], Bool, true, false, List, codes, Option, Result, Ok, Err}
 use Rattle.std.specs.Io.KnownBytes.{Appends}
+use Rattle.cli.specs.declared.job.Form.{Form}
+use Rattle.cli.specs.declared.job.Form.TheVariants.{Lines, Json}
 use Rattle.cli.specs.declared.job.Judging.{Judging}
 use Rattle.cli.specs.declared.job.Judging.TheVariants.{Check, CheckJson, Explain, ExplainJson}
-use Rattle.drvhost_devices.specs.Answer.{Answer, faulty}
-use Rattle.drvhost_devices.specs.Device.{MayBeClosed, Supply, TakesBeginning}
+use Rattle.drvhost_devices.specs.Answer.{Answer, IsUnopened, faulty}
+use Rattle.drvhost_devices.specs.Device.{Bytes, MayBeClosed, Supply, TakesBeginning}
 use Rattle.drvhost_devices.specs.Ends.{IsCheckOf}
+use Rattle.answer.specs.declared.content.Content.{Content}
+use Rattle.answer.specs.declared.content.Content.TheVariants.{Whole, Unread, Unopened}
 use Rattle.answer.specs.Check.{IsCheckJsonOf}
 use Rattle.drvhost_formats.specs.Explain.{IsExplainJsonOf}
 use Rattle.answer.specs.Told.{IsUnopenedJson}
@@ -21,6 +25,29 @@ IsJudged CheckJson name supply = IsCheckJsonOf name supply
 IsJudged (Explain extent coloring) name supply =
     IsShown coloring (IsFileExplained extent name supply)
 IsJudged (ExplainJson extent) name supply = IsExplainJsonOf extent name supply
+
+-- the form of what is answered
+abbrev pub form_of : Judging → Form
+form_of Check = Lines
+form_of CheckJson = Json
+form_of (Explain extent coloring) = Lines
+form_of (ExplainJson extent) = Json
+
+-- what is answered in a form where the file of a name can't be opened
+abbrev pub IsUnopenedIn : Form → List ℕ → Answer → Type 0
+IsUnopenedIn Lines = IsUnopened
+IsUnopenedIn Json = IsUnopenedJson
+
+-- what is answered in a form for the file of a name, by what was read of it, where these are the
+-- right answers for what it has to give
+abbrev pub IsFrom : Form → (Supply → Answer → Type 0) → List ℕ → Content → Answer → Type 0
+IsFrom form Right name (Whole bytes) answer = Right (Bytes bytes.now) answer
+IsFrom form Right name Unread answer = answer ≡ faulty (codes "read failed\n")
+IsFrom form Right name Unopened answer = IsUnopenedIn form name answer
+
+-- what is answered for a set that is judged, by what was read of its file
+abbrev pub IsJudgedFrom : Judging → List ℕ → Content → Answer → Type 0
+IsJudgedFrom judging name = IsFrom (form_of judging) (IsJudged judging name) name
 
 -- whether all that is answered is JSON
 abbrev pub is_in_json : Judging → Bool

@@ -1,5 +1,5 @@
 -- Answers in colour.
-use Rattle.std.specs.Prelude.{◌≡◌, Bool, true, false, Result, Ok, Err}
+use Rattle.std.specs.Prelude.{◌≡◌}
 use Rattle.drvhost_devices.specs.Painted.{IsPainted}
 use Rattle.drvhost_devices.specs.Answer.{Answer}
 use Rattle.drvhost_devices.specs.declared.coloring.Coloring.{Coloring}
@@ -20,9 +20,3 @@ abbrev pub IsShown : Coloring → (Answer → Type 0) → Answer → Type 0
 IsShown Auto Right = Right
 IsShown Always Right = IsInColor Right
 IsShown Never Right = Right
-
--- what was collected is painted, by whether a read failed
-abbrev pub IsPaintedOf : {E : Type 0} → Bool → Result Answer E → Answer → Type 0
-IsPaintedOf true told answer = ⊥
-IsPaintedOf false (Ok told) answer = IsPaintedAs told answer
-IsPaintedOf false (Err fault) answer = ⊥

@@ -1,27 +1,60 @@
 //! The answer for one file.
 
-ghost use Rattle.std.specs.Prelude.{◌≡◌, IfOk};
-ghost use Rattle.drvhost_devices.specs.Device.{Bytes, Says};
+ghost use Rattle.std.specs.Prelude.{IfOk};
+ghost use Rattle.drvhost_devices.specs.Device.{Says};
 ghost use Rattle.drvhost_devices.specs.Ends.{Answers};
 ghost use Rattle.drvhost_devices.specs.Ready.{CanAnswer};
 ghost use Rattle.drvhost_many.specs.Held.{IsAnswerTo, IsToldOf};
-ghost use Rattle.drvhost_many.specs.One.{IsJudged, is_in_json};
+ghost use Rattle.drvhost_many.specs.One.{IsJudged};
 
 use crate::named::{One, with_name};
-use crate::painting::explain_shown;
+use crate::painting::InColor;
 use answer::as_json::Json;
 use answer::as_text::Text;
 use answer::check::Judgement;
+use answer::content::{Content, Named};
 use answer::deliver::deliver;
-use answer::form::Form;
+use answer::job::Job;
 use answer::judged::Judged;
-use answer_explain::showing::Explained;
+use answer_explain::explaining::ExplainedText;
+use answer_explain::showing::WithHunt;
 use cli::job::Judging;
-use drvhost_devices::device::{Reader, Sink, Source, Writer};
-use drvhost_devices::told::{Told, collected};
+use drvhost_devices::device::{Sink, Source};
+use drvhost_devices::told::Told;
 use drvhost_files::reading::{Contents, Held};
-use drvhost_formats::explain::explain_json;
+use drvhost_formats::explain::ExplainedJson;
 use std::alloc::{AllocError, Global};
+
+/// The job of judging a set so, in the form that this names.
+#[derive(Clone, Copy)]
+pub struct Verdict {
+    pub judging: Judging,
+}
+
+impl Job for Verdict {
+    ghost use Rattle.drvhost_many.specs.One.{IsJudgedFrom};
+
+    ghost right = { λ verdict file. IsJudgedFrom verdict.judging file.name.now file.content };
+
+    fn answer(&self, alloc: Global, set: &Named<'_>) -> Result<Told, AllocError> {
+        let job = Judgement;
+        match self.judging {
+            Judging::Check => Judged { job, form: Text }.answer(alloc, set),
+            Judging::CheckJson => Judged { job, form: Json }.answer(alloc, set),
+            Judging::Explain(extent, coloring) => {
+                let form = ExplainedText { extent };
+                let job = WithHunt {
+                    job: Judged { job, form },
+                };
+                InColor { job, coloring }.answer(alloc, set)
+            }
+            Judging::ExplainJson(extent) => {
+                let form = ExplainedJson { extent };
+                Judged { job, form }.answer(alloc, set)
+            }
+        }
+    }
+}
 
 /// What is answered for a file that was read, told with its name.
 pub(crate) fn answer_held(
@@ -39,35 +72,23 @@ pub(crate) fn answer_held(
 fn answer_alone(alloc: Global, judging: Judging, held: &Held<'_>) -> Result<Told, AllocError>
     ensures { IfOk result (IsAnswerTo judging held.now.name.now held.now.contents) }
 {
+    let verdict = Verdict { judging };
+    let name = held.name;
     match &held.contents {
-        Contents::Whole(bytes) => judge_bytes(alloc, judging, held.name, bytes.as_slice()),
-        Contents::Unread => Text.unread(alloc, held.name),
-        Contents::Unopened => Json.unopened(alloc, held.name),
+        Contents::Whole(bytes) => {
+            let content = Content::Whole(bytes.as_slice());
+            verdict.answer(alloc, &Named { name, content })
+        }
+        Contents::Unread => {
+            let content = Content::Unread;
+            verdict.answer(alloc, &Named { name, content })
+        }
+        Contents::Unopened => {
+            let content = Content::Unopened;
+            verdict.answer(alloc, &Named { name, content })
+        }
         Contents::Lacking => Err(AllocError),
     }
-}
-
-/// What is answered for the bytes of a file of this name.
-fn judge_bytes(
-    alloc: Global,
-    judging: Judging,
-    name: &str,
-    bytes: &[u8],
-) -> Result<Told, AllocError>
-    ensures { IfOk result (IsJudged judging name.now (Bytes bytes.now)) }
-{
-    let mut set = Reader::new(Some(bytes));
-    let mut output = Writer::new(Vec::new(alloc));
-    let mut errors = Writer::new(Vec::new(alloc));
-    let exit = judge(alloc, judging, name, &mut set, &mut output, &mut errors);
-    collected(exit, set.failures(), output, errors)
-}
-
-/// Whether all that is answered is JSON.
-pub fn is_in_json(judging: Judging) -> bool
-    ensures { result ≡ is_in_json judging }
-{
-    matches!(judging, Judging::CheckJson | Judging::ExplainJson(_))
 }
 
 /// Judges the set of a source, whose file has this name.
@@ -86,26 +107,5 @@ pub fn judge<S: Source, O: Sink, E: Sink>(
         (Says (E.failures err.old) (E.failures err.new) (E.contents err.old) (E.contents err.new))
         result }
 {
-    match judging {
-        Judging::Check => {
-            let judged = Judged {
-                job: Judgement,
-                form: Text,
-            };
-            deliver(&judged, alloc, name, set, out, err)
-        }
-        Judging::CheckJson => {
-            let judged = Judged {
-                job: Judgement,
-                form: Json,
-            };
-            deliver(&judged, alloc, name, set, out, err)
-        }
-        Judging::Explain(extent, coloring) => {
-            explain_shown(alloc, Explained { name, extent }, coloring, set, out, err)
-        }
-        Judging::ExplainJson(extent) => {
-            explain_json(alloc, Explained { name, extent }, set, out, err)
-        }
-    }
+    deliver(&Verdict { judging }, alloc, name, set, out, err)
 }

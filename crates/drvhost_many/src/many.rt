@@ -12,9 +12,8 @@ ghost use Rattle.drvhost_files.specs.Reading.{IsAnswered};
 ghost use Rattle.drvhost_files.specs.Ready.{CanOpenMany};
 ghost use Rattle.drvhost_many.specs.All.{AnswersEach, Counted, EachGoes, end_status, width_of};
 ghost use Rattle.drvhost_many.specs.Held.{DeliversEach, IsToldOf, TellsLost};
-ghost use Rattle.drvhost_many.specs.One.{Delivers, IsLost, halt_status};
+ghost use Rattle.drvhost_many.specs.One.{Delivers, IsLost, halt_status, is_in_json};
 
-use crate::file::is_in_json;
 use crate::judging::JudgedFiles;
 use crate::named::{One, tell_no_memory};
 use cli::job::Judging;
@@ -188,6 +187,13 @@ fn answer_window<R: Threads + Sync + Progress, F: JudgedFiles, O: Sink, E: Sink>
         failures,
         err,
     )
+}
+
+/// Whether all that is answered is JSON: then a file that can't be opened is told so too.
+fn is_in_json(judging: Judging) -> bool
+    ensures { result ≡ is_in_json judging }
+{
+    matches!(judging, Judging::CheckJson | Judging::ExplainJson(_))
 }
 
 /// Tells that memory ran out for the first of some files.

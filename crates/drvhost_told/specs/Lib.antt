@@ -1,3 +1,1 @@
-pub mod Made
 pub mod Served
-pub mod Tell

@@ -1,5 +1,5 @@
 -- What `host` answers in JSON: an object for each command of a script, and one for their history.
-use Rattle.std.specs.Prelude.{ℕ, ◌≡◌, ◌+◌, ◌++◌, ◌⊎◌, List, [], ◌∷◌, None, Option, Some, Result, Ok, Err, length}
+use Rattle.std.specs.Prelude.{ℕ, ◌≡◌, ◌+◌, ◌++◌, List, [], ◌∷◌, Option, Result, Ok, Err, length}
 use Rattle.std.specs.Global.{Vec}
 use Rattle.interleave.specs.declared.schedule.ScheduleFault.{ScheduleFault}
 use Rattle.interleave_texts.specs.Script.{script_in}
@@ -11,12 +11,11 @@ use Rattle.report_json.specs.Line.{json_line}
 use Rattle.report_json.specs.Served.{command_json, history_json}
 use Rattle.workers_script.specs.declared.hosted.Hosted.{Hosted}
 use Rattle.workers_script.specs.Told.{Hosts, all_told}
-use Rattle.drvhost_devices.specs.Answer.{Answer}
+use Rattle.drvhost_devices.specs.Answer.{Answer, ended}
 use Rattle.drvhost_devices.specs.Device.{Holds, Supply}
 use Rattle.drvhost_devices.specs.declared.verification.Verification.TheVariants.{Required}
-use Rattle.drvhost_formats.specs.Events.{outcome_of}
-use Rattle.drvhost_formats.specs.Told.{IsToldOf, fault_answer, told}
-use Rattle.drvhost_formats.specs.Trace.{IsJudgedJson}
+use Rattle.answer.specs.Told.{IsToldOf, fault_answer}
+use Rattle.answer_runs.specs.InJson.{IsJudgedJson}
 use Rattle.answer_runs.specs.Served.{ringed_after, served_end}
 
 -- a line for each command, the first of which has this number, with what is told of it
@@ -27,11 +26,11 @@ command_objects n (its ∷ rest) = json_line (command_json n its) ++ command_obj
 -- what is answered of commands that were served: a line for each, and one for their history
 abbrev pub served_objects : List (Option Reply) → ℕ → List ℕ → Answer
 served_objects all entries ringed =
-    told (outcome_of (served_end all entries ringed))
+    ended (served_end all entries ringed)
     (command_objects 0 all ++ json_line (history_json entries ringed))
 
--- what `host` answers for a set that is accepted, with so many workers, and these commands: what the
--- history of their core tells
+-- what `host` answers for a set that is accepted, with so many workers, and these commands: what
+-- the history of their core tells
 pub record IsServedInJson (workers : ℕ) (commands : List Command) (set : Set) (answer : Answer)
     : Type 0 where
   pub hosted : Hosted

@@ -1,39 +1,35 @@
 //! What comes of a script of commands that workers serve, as lines of JSON.
 
-ghost use Rattle.std.specs.Prelude.{◌≡◌, ◌+◌, ◌++◌, ◌⊎◌, [], IfErr, IfOk, OnOk};
-ghost use Rattle.drvhost_devices.specs.Device.{Bytes, CanCount, Supply};
+ghost use Rattle.std.specs.Prelude.{◌≡◌, ◌+◌, ◌++◌, ◌⊎◌, IfErr, IfOk, OnOk};
+ghost use Rattle.drvhost_devices.specs.Device.{CanCount, Supply};
 ghost use Rattle.drvhost_devices.specs.Ends.{HoldsRun};
-ghost use Rattle.drvhost_devices.specs.Fault.{reads_failed, writes_failed};
+ghost use Rattle.drvhost_devices.specs.Fault.{reads_failed};
 ghost use Rattle.drvhost_devices.specs.Ready.{CanAnswer};
 ghost use Rattle.answer_explain.specs.Devices.{AnswersOver};
-ghost use Rattle.drvhost_formats.specs.Events.{outcome_of};
-ghost use Rattle.drvhost_formats.specs.Told.{IsToldOfFile, Tells, told};
+ghost use Rattle.answer.specs.Run.{IsChosenAs, IsSetToRun, set_chosen};
+ghost use Rattle.answer.specs.Told.{IsToldOfFile};
 ghost use Rattle.answer_runs.specs.Hosting.{AreWorkers};
-ghost use Rattle.answer_runs.specs.Served.{rings_in, served_end};
-ghost use Rattle.drvhost_told.specs.Made.{IsWithoutAnswer, Makes};
+ghost use Rattle.answer_runs.specs.Served.{rings_in};
 ghost use Rattle.drvhost_told.specs.Served.{IsHostJson, IsHostJsonOf, IsServedInJson};
 ghost use Rattle.drvhost_told.specs.Served.{IsServedJsonOf, ReadsCommands, command_objects};
-ghost use Rattle.model.specs.Typable.{IsTypable};
-ghost use Rattle.report_json.specs.Line.{json_line};
-ghost use Rattle.report_json.specs.Served.{history_json};
+ghost use Rattle.drvhost_told.specs.Served.{served_objects};
 
+use answer::as_json::{Json, told_fault};
+use answer::as_text::ended;
+use answer::deliver::{tell_unread, write_answer};
+use answer::run::{Begun, Chosen, ToRun};
 use answer_runs::host::{Hosting, end_of};
 use checked::Checked;
 use drvhost_devices::device::{Sink, Source};
-use drvhost_devices::fault::{End, Fault, no_memory};
-use drvhost_devices::transfer::{read_whole, write_bytes};
+use drvhost_devices::fault::Fault;
+use drvhost_devices::told::Told;
+use drvhost_devices::transfer::read_whole;
 use drvhost_devices::verification::Verification;
-use drvhost_formats::check::refuse;
-use drvhost_formats::job::{close, tell_fault};
-use drvhost_formats::outcome::Outcome;
-use drvhost_formats::reading::said_in;
-use image::DriverSet;
 use interleave::schedule::{ScheduleFault, ScheduleKind};
 use interleave_texts::script_parse::parse_script;
 use model::event::Reply;
 use model::history::Command;
 use model::memory::OutOfMemory;
-use report::lines::Lines;
 use report_json::fault::InputFault;
 use report_json::json_lines::JsonLines;
 use report_json::served::{ServedCommand, ServedHistory};
@@ -42,7 +38,7 @@ use std::mem::drop;
 use std::sync::Wait;
 use std::thread::Threads;
 use tell_audit::findings::ringed_threads;
-use verifier::{Accepted, verify};
+use verifier::Accepted;
 use workers::Gate;
 use workers_script::{Hosted, serve_script};
 
@@ -80,171 +76,136 @@ pub fn host_json<S: Source, P: Source, G: Gate + Sync, O: Sink, E: Sink, R: Thre
         (S.failures set.old + P.failures script.old) (S.failures set.new + P.failures script.new)
         out.old out.new err.old err.new result }
 {
-    match Lines::new(alloc) {
-        Ok(mut told) => {
-            let end = host_on(alloc, asked, set, script, out);
-            close(end, &mut told, err)
-        }
-        Err(AllocError) => no_memory(err),
+    match served(alloc, asked, set, script) {
+        Ok(told) => write_answer(Ok(told), out, err),
+        Err(fault) => tell_unread(fault, err),
     }
 }
 
-/// Has the script served over the set of a source, and writes the lines that gather.
-fn host_on<S: Source, P: Source, G: Gate + Sync, O: Sink, R: Threads + Wait + Sync>(
+/// The job of serving a script on a set.
+#[derive(Clone, Copy)]
+struct Serving;
+
+/// The answer for what the sources have.
+fn served<S: Source, P: Source, G: Gate + Sync, R: Threads + Wait + Sync>(
     alloc: Global,
     asked: &Asked<'_, R, G>,
     set: &mut S,
     script: &mut P,
-    out: &mut O,
-) -> Result<Outcome, Fault>
+) -> Result<Told, Fault>
     requires workers { AreWorkers asked.now.hosting.workers }
     requires set { CanCount (S.failures set.old) }
     requires script { CanCount (P.failures script.old) }
-    requires out { CanCount (O.failures out.old) }
     ensures unread { (script.new ≡ script.old)
         ⊎ HoldsRun Verification.Required (S.supply set.old) }
-    ensures tells { Tells
+    ensures told { IfOk result
         (IsHostJsonOf asked.now.hosting.workers asked.now.set.now asked.now.script.now
-        (S.supply set.old) (P.supply script.old))
-        (O.contents out.old) (O.contents out.new) [] [] result }
+        (S.supply set.old) (P.supply script.old)) }
+    ensures fault { IfErr result (λ fault. (fault ≡ Fault.Read) ⊎ (fault ≡ Fault.Memory)) }
     ensures reads { S.failures set.new + P.failures script.new
         ≡ S.failures set.old + P.failures script.old + reads_failed result }
-    ensures writes { O.failures out.new ≡ O.failures out.old + writes_failed result }
 {
     let bytes = read_whole(alloc, set)?;
-    host_bytes(alloc, asked, bytes.as_slice(), script, out)
+    served_for(alloc, asked, bytes.as_slice(), script)
 }
 
-/// Has it served over the set that the bytes of a file are, and writes the lines that gather.
-fn host_bytes<P: Source, G: Gate + Sync, O: Sink, R: Threads + Wait + Sync>(
+/// The answer where the file of the set has these bytes.
+fn served_for<P: Source, G: Gate + Sync, R: Threads + Wait + Sync>(
     alloc: Global,
     asked: &Asked<'_, R, G>,
     bytes: &[u8],
     script: &mut P,
-    out: &mut O,
-) -> Result<Outcome, Fault>
+) -> Result<Told, Fault>
     requires workers { AreWorkers asked.now.hosting.workers }
     requires script { CanCount (P.failures script.old) }
-    requires out { CanCount (O.failures out.old) }
-    ensures unread { (script.new ≡ script.old)
-        ⊎ HoldsRun Verification.Required (Bytes bytes.now) }
-    ensures tells { Tells (IsToldOfFile
+    ensures unread { (script.new ≡ script.old) ⊎ IsSetToRun Verification.Required bytes.now }
+    ensures told { IfOk result (IsToldOfFile
         (λ _. IsHostJson asked.now.hosting.workers asked.now.set.now asked.now.script.now
-        (P.supply script.old)) asked.now.set.now bytes.now)
-        (O.contents out.old) (O.contents out.new) [] [] result }
-    ensures reads { P.failures script.new ≡ P.failures script.old + reads_failed result }
-    ensures writes { O.failures out.new ≡ O.failures out.old + writes_failed result }
-{
-    let mut lines = JsonLines::new(alloc);
-    let outcome = host_for(alloc, asked, bytes, script, &mut lines)?;
-    write_bytes(lines.bytes(), out)?;
-    Ok(outcome)
-}
-
-/// Has it served over the set that the bytes of a file are, or adds the line of their fault.
-fn host_for<P: Source, G: Gate + Sync, R: Threads + Wait + Sync>(
-    alloc: Global,
-    asked: &Asked<'_, R, G>,
-    bytes: &[u8],
-    script: &mut P,
-    lines: &mut JsonLines,
-) -> Result<Outcome, Fault>
-    requires workers { AreWorkers asked.now.hosting.workers }
-    requires script { CanCount (P.failures script.old) }
-    requires empty { lines.old ≡ [] }
-    ensures unread { (script.new ≡ script.old)
-        ⊎ HoldsRun Verification.Required (Bytes bytes.now) }
-    ensures made { Makes (IsToldOfFile
-        (λ _. IsHostJson asked.now.hosting.workers asked.now.set.now asked.now.script.now
-        (P.supply script.old)) asked.now.set.now bytes.now) lines.new result }
+        (P.supply script.old)) asked.now.set.now bytes.now) }
+    ensures fault { IfErr result (λ fault. (fault ≡ Fault.Read) ⊎ (fault ≡ Fault.Memory)) }
     ensures reads { P.failures script.new ≡ P.failures script.old + reads_failed result }
 {
-    match said_in(alloc, bytes)? {
-        Ok(set) => serve_set(alloc, asked, set, script, lines),
-        Err(fault) => Ok(tell_fault(asked.set, fault, lines)?),
+    let run = ToRun {
+        job: Serving,
+        form: Json,
+        verification: Verification::Required,
+        set: asked.set,
+        input: asked.script,
+    };
+    match run.begin(alloc, bytes)? {
+        Begun::Runs(chosen) => serve_chosen(alloc, asked, chosen, script),
+        Begun::Kept(told) => Ok(told),
     }
 }
 
-/// Has the script served that a source has over a set if it is accepted, and else adds the line of
-/// its verdict.
-fn serve_set<P: Source, R: Threads + Wait + Sync, G: Gate + Sync>(
+/// Has the script served that a source has over a set, which is accepted.
+fn serve_chosen<P: Source, R: Threads + Wait + Sync, G: Gate + Sync>(
     alloc: Global,
     asked: &Asked<'_, R, G>,
-    set: DriverSet,
+    chosen: Chosen,
     script: &mut P,
-    lines: &mut JsonLines,
-) -> Result<Outcome, Fault>
+) -> Result<Told, Fault>
     requires workers { AreWorkers asked.now.hosting.workers }
     requires script { CanCount (P.failures script.old) }
-    requires empty { lines.old ≡ [] }
-    ensures unread { (script.new ≡ script.old) ⊎ IsTypable set }
-    ensures made { Makes (IsHostJson asked.now.hosting.workers asked.now.set.now
-        asked.now.script.now (P.supply script.old) set) lines.new result }
+    requires accepted { IsChosenAs Verification.Required chosen }
+    ensures told { IfOk result (IsServedJsonOf asked.now.hosting.workers asked.now.script.now
+        (P.supply script.old) (set_chosen chosen)) }
+    ensures fault { IfErr result (λ fault. (fault ≡ Fault.Read) ⊎ (fault ≡ Fault.Memory)) }
     ensures reads { P.failures script.new ≡ P.failures script.old + reads_failed result }
 {
-    match verify(alloc, set) {
-        Ok(accepted) => serve_source(alloc, asked, accepted, script, lines),
-        Err((set, refusal)) => {
-            drop(set);
-            Ok(refuse(asked.set, refusal, lines)?)
-        }
+    match chosen {
+        Chosen::Accepted(accepted) => serve_source(alloc, asked, accepted, script),
+        Chosen::Any(_set) => unreachable!(),
     }
 }
 
-/// Has it served over an accepted set, and adds the lines of what came of it.
+/// Has it served over an accepted set.
 fn serve_source<P: Source, R: Threads + Wait + Sync, G: Gate + Sync>(
     alloc: Global,
     asked: &Asked<'_, R, G>,
     accepted: Accepted,
     script: &mut P,
-    lines: &mut JsonLines,
-) -> Result<Outcome, Fault>
+) -> Result<Told, Fault>
     requires workers { AreWorkers asked.now.hosting.workers }
     requires script { CanCount (P.failures script.old) }
-    requires empty { lines.old ≡ [] }
-    ensures made { Makes (IsServedJsonOf asked.now.hosting.workers asked.now.script.now
-        (P.supply script.old) accepted) lines.new result }
+    ensures told { IfOk result (IsServedJsonOf asked.now.hosting.workers asked.now.script.now
+        (P.supply script.old) accepted) }
+    ensures fault { IfErr result (λ fault. (fault ≡ Fault.Read) ⊎ (fault ≡ Fault.Memory)) }
     ensures reads { P.failures script.new ≡ P.failures script.old + reads_failed result }
 {
     let read = read_script(alloc, script)?;
-    Ok(serve_read(alloc, asked, accepted, read, lines)?)
+    Ok(serve_read(alloc, asked, accepted, read)?)
 }
 
-/// Has what was read of a script served over an accepted set, or adds the line of its fault.
+/// Has what was read of a script served over an accepted set, or tells its fault.
 fn serve_read<R: Threads + Wait + Sync, G: Gate + Sync>(
     alloc: Global,
     asked: &Asked<'_, R, G>,
     accepted: Accepted,
     read: Result<Vec<Command>, ScheduleFault>,
-    lines: &mut JsonLines,
-) -> Result<Outcome, AllocError>
-    requires workers { AreWorkers asked.now.hosting.workers }
-    requires empty { lines.old ≡ [] }
-    ensures { IfOk result (λ outcome. (script : Supply) → ReadsCommands script read
-        → IsServedJsonOf asked.now.hosting.workers asked.now.script.now script accepted
-        (told outcome lines.new)) }
+) -> Result<Told, AllocError>
+    requires { AreWorkers asked.now.hosting.workers }
+    ensures { IfOk result (λ answer. (script : Supply) → ReadsCommands script read
+        → IsServedJsonOf asked.now.hosting.workers asked.now.script.now script accepted answer) }
 {
     match read {
-        Ok(commands) => serve(alloc, &asked.hosting, accepted, commands.as_slice(), lines),
+        Ok(commands) => serve(alloc, &asked.hosting, accepted, commands.as_slice()),
         Err(fault) => {
             drop(accepted);
-            tell_fault(asked.script, InputFault::Script(fault), lines)
+            told_fault(alloc, asked.script, InputFault::Script(fault))
         }
     }
 }
 
-/// Has commands served over an accepted set, and adds the lines of what came of them.
+/// Has commands served over an accepted set.
 fn serve<R: Threads + Wait + Sync, G: Gate + Sync>(
     alloc: Global,
     hosting: &Hosting<'_, R, G>,
     accepted: Accepted,
     commands: &[Command],
-    lines: &mut JsonLines,
-) -> Result<Outcome, AllocError>
-    requires workers { AreWorkers hosting.now.workers }
-    requires empty { lines.old ≡ [] }
-    ensures { IfOk result (λ outcome. IsServedInJson hosting.now.workers commands.now accepted
-        (told outcome lines.new)) }
+) -> Result<Told, AllocError>
+    requires { AreWorkers hosting.now.workers }
+    ensures { IfOk result (IsServedInJson hosting.now.workers commands.now accepted) }
 {
     let Hosting {
         runtime,
@@ -252,19 +213,17 @@ fn serve<R: Threads + Wait + Sync, G: Gate + Sync>(
         gate,
     } = *hosting;
     match serve_script(runtime, alloc, accepted, workers, commands, gate) {
-        Ok(hosted) => tell_served(alloc, hosted, lines),
+        Ok(hosted) => tell_served(alloc, hosted),
         Err(OutOfMemory) => Err(AllocError),
     }
 }
 
-/// Adds the lines of commands that were served, and of their history, and ends what held them.
-fn tell_served(alloc: Global, hosted: Hosted, lines: &mut JsonLines) -> Result<Outcome, AllocError>
-    ensures outcome { IfOk result (λ outcome. outcome
-        ≡ outcome_of (served_end hosted.told.items hosted.entries (rings_in hosted.standing))) }
-    ensures lines { OnOk result (lines.new ≡ lines.old ++ (command_objects 0 hosted.told.items
-        ++ json_line (history_json hosted.entries (rings_in hosted.standing)))) }
+/// The lines of commands that were served, and of their history. What held them ends.
+fn tell_served(alloc: Global, hosted: Hosted) -> Result<Told, AllocError>
+    ensures { IfOk result (λ answer. answer
+        ≡ served_objects hosted.told.items hosted.entries (rings_in hosted.standing)) }
 {
-    let told = tell_hosted(alloc, &hosted, lines);
+    let told = tell_hosted(alloc, &hosted);
     drop(hosted);
     told
 }
@@ -276,7 +235,7 @@ fn read_script<P: Source>(
 ) -> Result<Result<Vec<Command>, ScheduleFault>, Fault>
     requires { CanCount (P.failures source.old) }
     ensures script { IfOk result (ReadsCommands (P.supply source.old)) }
-    ensures fault { IfErr result IsWithoutAnswer }
+    ensures fault { IfErr result (λ fault. (fault ≡ Fault.Read) ⊎ (fault ≡ Fault.Memory)) }
     ensures reads { P.failures source.new ≡ P.failures source.old + reads_failed result }
 {
     let text = read_whole(alloc, source)?;
@@ -289,31 +248,19 @@ fn read_script<P: Source>(
     }
 }
 
-/// Adds the lines of commands that were served, and of their history.
-fn tell_hosted(alloc: Global, hosted: &Hosted, lines: &mut JsonLines) -> Result<Outcome, AllocError>
-    ensures outcome { IfOk result (λ outcome. outcome
-        ≡ outcome_of (served_end hosted.now.told.items hosted.now.entries
-        (rings_in hosted.now.standing))) }
-    ensures lines { OnOk result (lines.new ≡ lines.old ++ (command_objects 0 hosted.now.told.items
-        ++ json_line (history_json hosted.now.entries (rings_in hosted.now.standing)))) }
+/// The lines of commands that were served, and of their history.
+fn tell_hosted(alloc: Global, hosted: &Hosted) -> Result<Told, AllocError>
+    ensures { IfOk result (λ answer. answer ≡ served_objects hosted.now.told.items
+        hosted.now.entries (rings_in hosted.now.standing)) }
 {
     let ringed = ringed_in(alloc, &hosted.standing)?;
-    tell_commands(hosted.told.as_slice(), lines)?;
+    let mut lines = JsonLines::new(alloc);
+    tell_commands(hosted.told.as_slice(), &mut lines)?;
     lines.add(&ServedHistory {
         entries: hosted.entries as u64,
         ringed: ringed.as_slice(),
     })?;
-    Ok(outcome_of(end_of(hosted, ringed.as_slice())))
-}
-
-/// How a job has told its answer that ended so.
-fn outcome_of(end: End) -> Outcome
-    ensures { result ≡ outcome_of end }
-{
-    match end {
-        End::Complete => Outcome::Complete,
-        End::Stopped => Outcome::Stopped,
-    }
+    Ok(ended(alloc, end_of(hosted, ringed.as_slice()), lines.into_bytes()))
 }
 
 /// The threads that wait in a ring in what stands after a history.

@@ -5,4 +5,3 @@
 
 pub mod answers;
 pub mod delivery;
-mod returned;

@@ -7,16 +7,18 @@ ghost use Rattle.drvhost_devices.specs.Ready.{CanAnswer};
 use crate::devices::{Narrow, Slow, have_taken};
 use answer::as_text::Text;
 use answer::check::Judgement;
-use answer::deliver::deliver;
+use answer::deliver::{deliver, write_answer};
+use answer::form::Form;
 use answer::judged::{Judged, Unjudged};
 use answer::list::Listing;
-use answer_explain::explaining::explain;
+use answer::run::{ToRun, deliver_run};
+use answer_explain::explaining::ExplainedText;
 use answer_explain::rewriting::rewrite;
 use answer_explain::version::version;
 use answer_runs::host::{Hosting, host};
 use answer_runs::trace::trace;
-use answer_views::draw::{Drawing, draw};
-use answer_views::tell::{Telling, tell};
+use answer_views::draw::Drawn;
+use answer_views::tell::InWords;
 use drvhost_devices::device::{Reader, Sink, Source};
 use drvhost_devices::extent::Extent;
 use drvhost_devices::figure::Figure;
@@ -355,15 +357,18 @@ struct Streams<'a> {
     err: Narrow,
 }
 
-/// The exit status of the verdict on the set of a source.
-fn check<S: Source, O: Sink, E: Sink>(alloc: Global, set: &mut S, out: &mut O, err: &mut E) -> u8
+/// The exit status of the verdict on the set of a source, in a form.
+fn judge<F: Form + Drop, S: Source, O: Sink, E: Sink>(
+    form: F,
+    alloc: Global,
+    set: &mut S,
+    out: &mut O,
+    err: &mut E,
+) -> u8
     requires { CanAnswer O.Sink E.Sink (S.failures set.old) out.old err.old }
 {
-    let judged = Judged {
-        job: Judgement,
-        form: Text,
-    };
-    deliver(&judged, alloc, "", set, out, err)
+    let job = Judgement;
+    deliver(&Judged { job, form }, alloc, "", set, out, err)
 }
 
 /// The exit status of a case with such devices.
@@ -380,8 +385,8 @@ fn answer<R: Threads + Wait + Sync>(
 {
     let Streams { set, out, err } = streams;
     match case.job {
-        Job::Check => check(alloc, set, out, err),
-        Job::Explain(extent) => explain(alloc, extent, set, out, err),
+        Job::Check => judge(Text, alloc, set, out, err),
+        Job::Explain(extent) => judge(ExplainedText { extent }, alloc, set, out, err),
         Job::List => {
             let listed = Unjudged {
                 job: Listing,
@@ -396,19 +401,13 @@ fn answer<R: Threads + Wait + Sync>(
         }
         Job::Tell(schedule, verification, detail) => {
             let mut schedule = Slow::new(schedule, devices.step, devices.orders);
-            let telling = telling_by(verification, detail);
-            tell(alloc, set, &mut schedule, telling, out, err)
+            let told = told_by(verification, detail);
+            deliver_run(&told, alloc, set, &mut schedule, out, err)
         }
         Job::Draw(schedule, verification) => {
             let mut schedule = Slow::new(schedule, devices.step, devices.orders);
-            draw(
-                alloc,
-                picture_by(verification),
-                set,
-                &mut schedule,
-                out,
-                err,
-            )
+            let drawn = picture_by(verification);
+            deliver_run(&drawn, alloc, set, &mut schedule, out, err)
         }
         Job::Host(script) => {
             let mut script = Slow::new(script, devices.step, devices.orders);
@@ -422,14 +421,18 @@ fn answer<R: Threads + Wait + Sync>(
     }
 }
 
-/// How a run is told in such detail.
-fn telling_by(verification: Verification, detail: Detail) -> Telling {
-    Telling {
+/// A run that is told in such detail.
+fn told_by(verification: Verification, detail: Detail) -> ToRun<'static, InWords, Text> {
+    let manner = Manner {
+        detail,
+        strictness: Strictness::Lenient,
+    };
+    ToRun {
+        job: InWords { manner },
+        form: Text,
         verification,
-        manner: Manner {
-            detail,
-            strictness: Strictness::Lenient,
-        },
+        set: "",
+        input: "",
     }
 }
 
@@ -632,10 +635,14 @@ fn each_write_of_a_run_fails_in_turn(rt: HostRuntime) {
 }
 
 /// A run that is drawn as a picture.
-fn picture_by(verification: Verification) -> Drawing {
-    Drawing {
+fn picture_by(verification: Verification) -> ToRun<'static, Drawn, Text> {
+    let figure = Figure::Picture;
+    ToRun {
+        job: Drawn { figure },
+        form: Text,
         verification,
-        figure: Figure::Picture,
+        set: "",
+        input: "",
     }
 }
 
@@ -645,8 +652,8 @@ fn picture_of(alloc: Global) -> Narrow {
     let mut schedule = Slow::new(SCHEDULE, 1, None);
     let mut out = Narrow::new(alloc, 100, None);
     let mut err = Narrow::new(alloc, 1, None);
-    let how = picture_by(Verification::Required);
-    let _status = draw(alloc, how, &mut set, &mut schedule, &mut out, &mut err);
+    let drawn = picture_by(Verification::Required);
+    let _status = deliver_run(&drawn, alloc, &mut set, &mut schedule, &mut out, &mut err);
     out
 }
 
@@ -715,7 +722,7 @@ fn no_one_to_tell_of_a_failure(rt: HostRuntime) {
 fn is_versioned(alloc: Global, told: &[u8], calls: usize) -> bool {
     let mut out = Narrow::new(alloc, 1, Some(calls));
     let mut err = Narrow::new(alloc, 1, None);
-    let status = version(&mut out, &mut err);
+    let status = write_answer(version(alloc), &mut out, &mut err);
     have_taken(&out, &err, status, told, calls)
 }
 
@@ -724,7 +731,7 @@ fn is_versioned(alloc: Global, told: &[u8], calls: usize) -> bool {
 fn each_write_of_the_version_fails_in_turn(rt: HostRuntime) {
     let mut whole = Narrow::new(rt.alloc(), 1, None);
     let mut err = Narrow::new(rt.alloc(), 1, None);
-    assert_eq!(rt; version(&mut whole, &mut err), 0);
+    assert_eq!(rt; write_answer(version(rt.alloc()), &mut whole, &mut err), 0);
     for calls in 0..=whole.written.len() {
         assert!(rt;
             is_versioned(rt.alloc(), whole.written.as_slice(), calls),
@@ -738,7 +745,7 @@ fn is_unopened(alloc: Global, good: Option<usize>) -> bool {
     let mut out = Narrow::new(alloc, 1, None);
     let mut err = Narrow::new(alloc, 1, good);
     let mut set = Reader::<&[u8]>::new(None);
-    let status = check(alloc, &mut set, &mut out, &mut err);
+    let status = judge(Text, alloc, &mut set, &mut out, &mut err);
     let told = good.unwrap_or(usize::MAX).min(b"read failed\n".len());
     status == 2
         && set.failures() == 1

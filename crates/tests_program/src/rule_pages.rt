@@ -1,6 +1,7 @@
 //! A rule in words, over a writer that fails at each call in turn.
 
 use crate::devices::{Narrow, have_taken};
+use answer::deliver::write_answer;
 use answer_explain::rule::explain_rule;
 use model::abs::Rule;
 use std::alloc::Global;
@@ -9,7 +10,8 @@ use std::alloc::Global;
 fn whole_page(alloc: Global) -> Narrow {
     let mut out = Narrow::new(alloc, 1, None);
     let mut err = Narrow::new(alloc, 1, None);
-    let _status = explain_rule(alloc, Rule::CancelState, &mut out, &mut err);
+    let page = explain_rule(alloc, Rule::CancelState);
+    let _status = write_answer(page, &mut out, &mut err);
     out
 }
 
@@ -17,7 +19,8 @@ fn whole_page(alloc: Global) -> Narrow {
 fn is_written(alloc: Global, page: &[u8], calls: usize) -> bool {
     let mut out = Narrow::new(alloc, 1, Some(calls));
     let mut err = Narrow::new(alloc, 1, None);
-    let status = explain_rule(alloc, Rule::CancelState, &mut out, &mut err);
+    let answer = explain_rule(alloc, Rule::CancelState);
+    let status = write_answer(answer, &mut out, &mut err);
     have_taken(&out, &err, status, page, calls)
 }
 

@@ -1,18 +1,13 @@
-use Rattle.std.proofs.Common.{arith, refl}
-use Rattle.drvhost_devices.specs.declared.fault.Fault.TheVariants.{Memory}
-use Rattle.drvhost_devices.specs.Ends.{OutOfMemory}
-use Rattle.drvhost_devices.specs.Fault.{fault_told}
-use Rattle.drvhost_devices.proofs.Writing.{keeps_same}
+use Rattle.std.proofs.Common.{refl}
+use Rattle.answer.proofs.AsText.{read_for}
+use Rattle.drvhost_devices.specs.Device.{Bytes}
+use Rattle.answer_explain.proofs.Explained.{IsWorded, explained_said}
 use Rattle.answer_explain.proofs.explaining.explain.Goals as goal
 
-pub returns-in-Err : goal.returns-in-Err
-returns-in-Err g c =
-    record {
-      reads = 0;
-      writes = 0;
-      told = fault_told Memory;
-      reads_are = omega arith;
-      writes_are = omega arith;
-      tells = c.no_memory.ensures.told;
-      ends = OutOfMemory refl refl c.no_memory.ensures.status refl (keeps_same _);
-    }
+pub returns : goal.returns
+returns c =
+    let extent = c.args.extent in
+    let bytes = c.args.bytes.now in
+    let is =
+    read_for (IsWorded extent) _ (Bytes bytes) _ (bytes, refl, c.in_ok-answer_to.ensures) in
+    (is.0, is.1, explained_said extent is.0 _ is.2)

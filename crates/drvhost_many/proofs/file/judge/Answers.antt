@@ -1,21 +1,13 @@
 use Rattle.std.proofs.Common.{arith}
-use Rattle.drvhost_devices.specs.Ends.{IsCheckOf}
-use Rattle.answer.specs.Check.{IsCheckJsonOf}
-use Rattle.answer.proofs.Checking.{json_for, text_for}
-use Rattle.answer.proofs.Delivering.{answers_rightly}
+use Rattle.drvhost_many.specs.One.{IsJudged}
+use Rattle.drvhost_many.proofs.Judged.{answers_rightly}
+use Rattle.drvhost_many.proofs.Verdicts.{judged_of}
 use Rattle.drvhost_many.proofs.file.judge.Goals as goal
 
-pub returns-in-Check : goal.returns-in-Check
-returns-in-Check g c =
+pub returns : goal.returns
+returns g c =
     let supply = g.S.Source.supply c.args.set.now in
-    rw c.in-Check.is
-    (answers_rightly _ (IsCheckOf supply) _ _ _ _ _ _ _ _ _ _ c.deliver.ensures
-    (text_for c.args.name.now supply) (omega arith))
-
-pub returns-in-CheckJson : goal.returns-in-CheckJson
-returns-in-CheckJson g c =
     let name = c.args.name.now in
-    let supply = g.S.Source.supply c.args.set.now in
-    rw c.in-CheckJson.is
-    (answers_rightly _ (IsCheckJsonOf name supply) _ _ _ _ _ _ _ _ _ _
-    c.deliver-in-CheckJson.ensures (json_for name supply) (omega arith))
+    let judging = c.args.judging in
+    answers_rightly _ (IsJudged judging name supply) _ _ _ _ _ _ _ _ _ _ c.deliver.ensures
+    (λ answer right. judged_of judging name supply answer right) (omega arith)

@@ -1,29 +1,22 @@
-use Rattle.std.proofs.Common.{arith, refl}
-use Rattle.drvhost_devices.specs.declared.fault.Fault.TheVariants.{Memory}
-use Rattle.drvhost_devices.specs.Ends.{OutOfMemory}
-use Rattle.drvhost_devices.specs.Fault.{fault_told}
-use Rattle.drvhost_devices.proofs.Writing.{keeps_same}
-use Rattle.drvhost_formats.proofs.Telling.{answered}
+use Rattle.std.proofs.Common.{◌≡◌, Ok, arith}
+use Rattle.drvhost_devices.specs.Answer.{Answer}
+use Rattle.answer.proofs.Delivering.{answers_rightly, found, unread}
 use Rattle.drvhost_told.specs.Served.{IsHostJsonOf}
 use Rattle.drvhost_told.proofs.host.host_json.Goals as goal
 
 pub returns-in-Ok-clause-answers : goal.returns-in-Ok-clause-answers
 returns-in-Ok-clause-answers g c =
     let asked = c.args.asked.now in
-    answered
-    (IsHostJsonOf asked.hosting.workers asked.set.now asked.script.now
-    (g.S.Source.supply c.args.set.now) (g.P.Source.supply c.args.script.now)) _ _
-    c.host_on-end.result _ _ _ _ _ _ c.host_on-end.ensures.tells c.host_on-end.ensures.reads
-    c.host_on-end.ensures.writes c.close.ensures.told c.close.ensures.status
+    let Q : Answer → Type 0 = IsHostJsonOf asked.hosting.workers asked.set.now asked.script.now
+    (g.S.Source.supply c.args.set.now) (g.P.Source.supply c.args.script.now) in
+    let before = g.S.Source.failures c.args.set.now in
+    let read = c.in-Ok.ensures.reads in
+    answers_rightly (λ told. Ok c.in-Ok.told ≡ Ok told) Q before before _ _ _ _ _ _ _ _
+    (c.write_answer.ensures before)
+    (λ told is. found Q (Ok c.in-Ok.told) told c.in-Ok.ensures.told is)
+    (omega (arith, read))
 
 pub returns-in-Err-clause-answers : goal.returns-in-Err-clause-answers
 returns-in-Err-clause-answers g c =
-    record {
-      reads = 0;
-      writes = 0;
-      told = fault_told Memory;
-      reads_are = omega arith;
-      writes_are = omega arith;
-      tells = c.no_memory.ensures.told;
-      ends = OutOfMemory refl refl c.no_memory.ensures.status refl (keeps_same _);
-    }
+    unread _ c.in-Err.fault _ _ _ _ _ _ c.in-Err.ensures.fault c.in-Err.ensures.reads
+    c.tell_unread.ensures.told c.tell_unread.ensures.status

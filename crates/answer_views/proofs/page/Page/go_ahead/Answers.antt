@@ -6,7 +6,8 @@ returns-in-Quiet-clause-goes c = goes_nowhere _ _
 
 pub returns-in-Quiet-2-clause-told : goal.returns-in-Quiet-2-clause-told
 returns-in-Quiet-2-clause-told c some =
-    rw c.in-Quiet-2.is (told_quiet c.args.self.now.number c.go_on-made.result c.args.self.now.text)
+    rw c.in-Quiet-2.is
+    (told_quiet c.args.self.now.number c.go_on-made.result c.args.self.now.text.items)
 
 pub returns-in-Usual-clause-goes : goal.returns-in-Usual-clause-goes
 returns-in-Usual-clause-goes c = goes_nowhere _ _

@@ -1,7 +1,7 @@
 use Rattle.std.proofs.Common.{◌≡◌, ◌∙◌, ◌≤◌, arith, refl}
 use Rattle.checked.specs.GoingOn.{none}
 use Rattle.drvhost_devices.specs.declared.manner.Detail.TheVariants.{Every}
-use Rattle.answer_views.proofs.ToldAlone.{goes_one, told_none, told_one}
+use Rattle.answer_views.proofs.ToldAlone.{alone_none, goes_one, told_one}
 use Rattle.answer_views.proofs.page.Page.tell_alone.Goals as goal
 
 pub loop-made-init : goal.loop-made-init
@@ -11,7 +11,7 @@ loop-made-init c =
       few = omega arith;
       numbered = omega arith;
       goes = none;
-      told = told_none c.args.self.now.number c.args.self.now.text;
+      told = alone_none c.args.self.now.number c.args.self.now.text.items;
       same = λ is. (refl, refl);
     }
 
@@ -31,7 +31,8 @@ loop-made-preserved c =
           c.in_ok-tell_step.ensures.goes c.in_ok-tell_step.ensures.few some;
       told =
           told_one Every c.loop-made.made c.args.self.now.number c.loop-made.self.number
-          c.args.self.now.text c.loop-made.self.text c.tell_step.new.self.text c.loop-made.invariant.told
+          c.args.self.now.text.items c.loop-made.self.text.items
+          c.tell_step.new.self.text.items c.loop-made.invariant.told
           c.loop-made.invariant.numbered (c.in_ok-tell_step.ensures.told some);
       same = λ is. absurd (omega (arith, is));
     }

@@ -11,6 +11,11 @@ invariant-loop-made l =
       few : l.made ≤ l.most;
       numbered : l.self.number ≡ l.initial.self.number + l.made;
       goes : GoesOn l.thread l.initial.machine l.made l.machine;
-      told : ToldAlone Every l.initial.self.number l.made l.initial.self.text l.self.text;
-      same : l.made ≡ 0 → (l.machine ≡ l.initial.machine) × (l.self.text ≡ l.initial.self.text);
+      told :
+          ToldAlone Every l.initial.self.number l.made l.initial.self.text.items
+          l.self.text.items;
+      same :
+          l.made ≡ 0
+          → (l.machine ≡ l.initial.machine)
+          × (l.self.text.items ≡ l.initial.self.text.items);
     }

@@ -1,4 +1,3 @@
-use Rattle.std.proofs.Common.{◌++◌}
 use Rattle.checked.specs.GoingOn.{none}
 use Rattle.answer_views.proofs.page.Page.tell_step.Goals as goal
 
@@ -6,7 +5,4 @@ pub returns-in_default-clause-goes : goal.returns-in_default-clause-goes
 returns-in_default-clause-goes c = none
 
 pub returns-clause-told : goal.returns-clause-told
-returns-clause-told c some = (
-  c.words_of.result.front.now ++ c.words_of.result.rest.now,
-  c.in_ok-add_line.ensures.added,
-)
+returns-clause-told c some = rw c.begin_line-head.ensures at c.in_ok-end_line.ensures.told

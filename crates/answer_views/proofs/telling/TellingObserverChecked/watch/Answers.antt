@@ -109,6 +109,6 @@ returns-clause-tells c =
     (telling_next c.waiting_changes_nothing.ensures c.go_ahead.new.machine c.tell_next.new.machine
     c.args.event.now c.tell_next.new.self.sight.happened.reply c.at_once.result c.in_ok-times.times
     mid c.tell_next.new.self c.at_once.ensures.some c.in_ok-times.ensures.times
-    c.in_ok-times.ensures.sees.applied c.in_ok-times.ensures.sees.noted c.in_ok-times.ensures.sees.kept
-    c.in_ok-times.ensures.detail c.in_ok-times.ensures.number c.in_ok-times.ensures.refused
-    c.in_ok-times.ensures.told)
+    c.in_ok-times.ensures.sees.applied c.in_ok-times.ensures.sees.noted
+    c.in_ok-times.ensures.sees.kept c.in_ok-times.ensures.detail c.in_ok-times.ensures.number
+    c.in_ok-times.ensures.refused c.in_ok-times.ensures.told)

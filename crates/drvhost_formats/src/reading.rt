@@ -1,3 +1,0 @@
-//! What the bytes of a file say.
-
-pub use answer::reading::said_in;
