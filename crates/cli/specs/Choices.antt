@@ -35,7 +35,7 @@ use Rattle.cli.specs.declared.choices.Format.TheVariants.{Text as AsText, Json, 
 use Rattle.cli.specs.declared.job.Form.{Form}
 use Rattle.cli.specs.declared.job.Form.TheVariants.{Lines as InLines, Json as InJson}
 use Rattle.cli.specs.declared.job.Report.{Report}
-use Rattle.cli.specs.declared.job.Report.TheVariants.{Lines, Tap, JUnit}
+use Rattle.cli.specs.declared.job.Report.TheVariants.{Lines, Tap13, Tap14, JUnit}
 
 -- what a word stands for, by the words that there are
 abbrev pub named_in : {A : Type 0} → List (Text × A) → Text → Option A
@@ -71,7 +71,9 @@ figure_of rows = chosen Picture figures (first_of (codes "format") rows)
 
 -- how tests are reported
 abbrev pub reports : List (Text × Report)
-reports = (codes "text", Lines) ∷ (codes "tap", Tap) ∷ (codes "junit", JUnit) ∷ []
+reports =
+    (codes "text", Lines) ∷ (codes "tap", Tap13) ∷ (codes "tap14", Tap14)
+    ∷ (codes "junit", JUnit) ∷ []
 
 abbrev pub report_of : List Row → Option Report
 report_of rows = chosen Lines reports (first_of (codes "format") rows)

@@ -24,14 +24,14 @@ use Rattle.cli.specs.declared.job.Judging.{Judging}
 use Rattle.cli.specs.declared.job.Judging.TheVariants.{Check, CheckJson, Explain, ExplainJson}
 use Rattle.cli.specs.declared.job.Page.{Page}
 use Rattle.cli.specs.declared.job.Page.TheVariants.{Rule as PageOfRule, LockOrder, Version}
-use Rattle.cli.specs.declared.job.Task.TheVariants.{Mend, List as Listing, Hunt, HuntExactly, Find, FindExactly}
+use Rattle.cli.specs.declared.job.Task.TheVariants.{Mend, List as Listing, Stats, Hunt, HuntExactly, Find, FindExactly}
 use Rattle.cli.specs.declared.job.Way.{Way}
 use Rattle.cli.specs.declared.job.Way.TheVariants.{Trace, TraceJson, Tell, TellJson, Draw, Schedule}
 use Rattle.cli.specs.declared.job.JobFault.{JobFault}
 use Rattle.cli.specs.declared.job.JobFault.TheVariants.{Usage, Memory}
 use Rattle.cli.specs.declared.naming.Judgement.{Judgement}
 use Rattle.cli.specs.declared.table.Subcommand.{Subcommand}
-use Rattle.cli.specs.declared.table.Subcommand.TheVariants.{Check as ToCheck, Explain as ToExplain, Mend as ToMend, Trace as ToTrace, Tell as ToTell, Draw as ToDraw, Test as ToTest, Schedule as ToSchedule, Hunt as ToHunt, Host as ToHost, List as ToList, Rewrite as ToRewrite, Version as ToVersion}
+use Rattle.cli.specs.declared.table.Subcommand.TheVariants.{Check as ToCheck, Explain as ToExplain, Mend as ToMend, Trace as ToTrace, Tell as ToTell, Draw as ToDraw, Test as ToTest, Schedule as ToSchedule, Hunt as ToHunt, Host as ToHost, Stats as ToStats, List as ToList, Rewrite as ToRewrite, Version as ToVersion}
 
 -- a job is one of which this holds, or there is none such
 abbrev pub IsNamed : Option Job → (Job → Type 0) → Type 0
@@ -164,6 +164,8 @@ NamesOf ToHost rows (Host serving) =
 NamesOf ToHost rows (Keep keeping) =
     HasBoth (codes "SCRIPT") rows keeping.names × HasWorkers rows keeping.workers
     × (form_of rows ≡ Some InLines) × Has (codes "OUT") rows keeping.output.now
+NamesOf ToStats rows (OnSet set (Stats form)) =
+    Has (codes "FILE") rows set.now × (form_of rows ≡ Some form)
 NamesOf ToList rows (OnSet set Listing) = Has (codes "FILE") rows set.now
 NamesOf ToRewrite rows (Rewrite set output) =
     Has (codes "FILE") rows set.now × Has (codes "OUT") rows output.now

@@ -7,7 +7,7 @@ use Rattle.clap.specs.declared.builder.value_parser.ValueParser.{ValueParser}
 use Rattle.clap.specs.declared.builder.value_parser.ValueParser.TheVariants.{Signed, String as AnyText, Unsigned}
 use Rattle.cli.specs.Choices.{named_in}
 use Rattle.cli.specs.declared.table.Subcommand.{Subcommand}
-use Rattle.cli.specs.declared.table.Subcommand.TheVariants.{Check, Explain, Mend, Trace, Tell, Draw, Test, Schedule, Hunt, Host, List as Listing, Rewrite, Version}
+use Rattle.cli.specs.declared.table.Subcommand.TheVariants.{Check, Explain, Mend, Trace, Tell, Draw, Test, Schedule, Hunt, Host, Stats, List as Listing, Rewrite, Version}
 use Rattle.model.specs.declared.limits.TheConstants.{MAX_THREADS}
 use Rattle.hunt_facts.specs.declared.reach.TheConstants.{MAX_PACKETS, MAX_WORLDS}
 use Rattle.drvhost_devices.specs.declared.jobs.TheConstants.{MAX_JOBS}
@@ -157,6 +157,7 @@ commands =
     ∷ (Schedule, run_command (codes "schedule") (codes "SCENARIO") [])
     ∷ (Hunt, hunt_command)
     ∷ (Host, host_command)
+    ∷ (Stats, set_command (codes "stats") (format_option ∷ []))
     ∷ (Listing, set_command (codes "list") [])
     ∷ (Rewrite, set_command (codes "rewrite") (file_argument (codes "OUT") ∷ []))
     ∷ (Version, command (codes "version") [])

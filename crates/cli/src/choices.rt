@@ -89,7 +89,8 @@ pub(crate) fn report(matches: &ArgMatches<'_>) -> Option<Report>
     match argument(matches, "format") {
         None => Some(Report::Lines),
         Some("text") => Some(Report::Lines),
-        Some("tap") => Some(Report::Tap),
+        Some("tap") => Some(Report::Tap13),
+        Some("tap14") => Some(Report::Tap14),
         Some("junit") => Some(Report::JUnit),
         Some(_) => None,
     }

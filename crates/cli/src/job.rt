@@ -46,7 +46,7 @@ pub enum Job<'a> {
         paths: Vec<&'a str>,
         logging: Logging,
     },
-    /// `test FILE SCENARIO.. [--unchecked] [--format tap|junit] [--verbose] [--jobs N]`
+    /// `test FILE SCENARIO.. [--unchecked] [--format tap|tap14|junit] [--verbose] [--jobs N]`
     Test(Testing<'a>),
     /// `rewrite FILE OUT`
     Rewrite {
@@ -158,8 +158,10 @@ pub enum Form {
 pub enum Report {
     /// In a line each.
     Lines,
-    /// In the form of TAP, version 14.
-    Tap,
+    /// In the form of TAP, version 13.
+    Tap13,
+    /// In that of its version 14.
+    Tap14,
     /// In the form of JUnit.
     JUnit,
 }
@@ -171,6 +173,8 @@ pub enum Task {
     Mend(u64, Form),
     /// `list FILE`
     List,
+    /// `stats FILE [--format json]`
+    Stats(Form),
     /// `hunt FILE [--threads N] [--packets N] [--states N] [--events N] [--argument N] [--stuck]
     /// [--format json]`
     Hunt(Reach, Form),

@@ -60,6 +60,7 @@ fn job_named<'a>(
         Subcommand::Schedule => Ok(schedule_named(matches)),
         Subcommand::Hunt => Ok(hunt_named(matches)),
         Subcommand::Host => Ok(host_named(matches)),
+        Subcommand::Stats => Ok(stats_named(matches)),
         Subcommand::List => Ok(list_named(matches)),
         Subcommand::Rewrite => Ok(rewrite_named(matches)),
         Subcommand::Version => Ok(Some(Job::Page(Page::Version))),
@@ -348,6 +349,14 @@ fn host_named<'a>(matches: &ArgMatches<'a>) -> Option<Job<'a>>
         })),
         (Form::Json, Some(_)) => None,
     }
+}
+
+fn stats_named<'a>(matches: &ArgMatches<'a>) -> Option<Job<'a>>
+    ensures { IsNamed result (NamesOf Subcommand.Stats (given_by matches.now)) }
+{
+    let set = argument(matches, "FILE")?;
+    let task = Task::Stats(form(matches)?);
+    Some(Job::OnSet { set, task })
 }
 
 fn list_named<'a>(matches: &ArgMatches<'a>) -> Option<Job<'a>>

@@ -25,6 +25,7 @@ pub(crate) enum Subcommand {
     Schedule,
     Hunt,
     Host,
+    Stats,
     List,
     Rewrite,
     Version,
@@ -110,7 +111,7 @@ const COLOR: Argument<'static> = Argument::Choice(
 );
 
 /// All commands, in the order of the texts of help.
-pub(crate) const COMMANDS: [Entry<'static>; 13] = [
+pub(crate) const COMMANDS: [Entry<'static>; 14] = [
     Entry {
         command: Subcommand::Check,
         name: "check",
@@ -213,7 +214,7 @@ pub(crate) const COMMANDS: [Entry<'static>; 13] = [
             UNCHECKED,
             Argument::Choice(
                 "format",
-                "How it is reported, text, tap or junit; text where none is given",
+                "How it is reported, text, tap, tap14 or junit; text where none is given",
             ),
             Argument::Flag(
                 "verbose",
@@ -294,6 +295,13 @@ pub(crate) const COMMANDS: [Entry<'static>; 13] = [
                 "Writes what the workers did to this file, as a schedule",
             ),
         ],
+    },
+    Entry {
+        command: Subcommand::Stats,
+        name: "stats",
+        about: "Tells the routines, the lock orders and the sizes of an accepted driver set",
+        usage: None,
+        arguments: &[SET, FORMAT],
     },
     Entry {
         command: Subcommand::List,

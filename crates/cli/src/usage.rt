@@ -22,7 +22,7 @@ const ANSWERS: &str = "text or json";
 
 const FIGURES: &str = "svg or perfetto";
 
-const REPORTS: &str = "text, tap or junit";
+const REPORTS: &str = "text, tap, tap14 or junit";
 
 /// Why words of a command name no job.
 #[derive(Clone, Copy)]
@@ -79,7 +79,7 @@ fn misfit_of<'a>(command: Subcommand, matches: &ArgMatches<'a>) -> Misfit<'a> {
         Subcommand::Explain if verdict_format(matches).is_some() => unexplained(matches),
         Subcommand::Check | Subcommand::Explain => Misfit::Format(VERDICTS),
         Subcommand::Tell if answer_format(matches).is_some() => untold(matches),
-        Subcommand::Trace | Subcommand::Tell => Misfit::Format(ANSWERS),
+        Subcommand::Trace | Subcommand::Tell | Subcommand::Stats => Misfit::Format(ANSWERS),
         Subcommand::Draw => Misfit::Format(FIGURES),
         Subcommand::Test => Misfit::Format(REPORTS),
         Subcommand::Hunt if is_given(matches, "exact") && is_given(matches, "stuck") => {

@@ -1,7 +1,7 @@
 -- How what tests answer is reported: in lines, or in the forms of TAP and of JUnit.
 use Rattle.std.specs.Prelude.{ℕ, ◌++◌, ◌&&◌, ◌||◌, Bool, true, nat_eq, nat_le, List, [], ◌∷◌, codes, decimal, flat_map, if◌then◌else◌}
 use Rattle.cli.specs.declared.job.Report.{Report}
-use Rattle.cli.specs.declared.job.Report.TheVariants.{Lines, Tap, JUnit}
+use Rattle.cli.specs.declared.job.Report.TheVariants.{Lines, Tap13, Tap14, JUnit}
 use Rattle.drvhost_devices.specs.Answer.{Answer}
 use Rattle.drvhost_many.specs.Marked.{lines_named}
 
@@ -49,7 +49,8 @@ test_case name answer =
 -- a test of a name, as it is reported
 abbrev pub entry : Report → List ℕ → Answer → List ℕ
 entry Lines name answer = answer.output
-entry Tap name answer = tap_point name answer
+entry Tap13 name answer = tap_point name answer
+entry Tap14 name answer = tap_point name answer
 entry JUnit name answer = test_case name answer
 
 abbrev pub reported : Report → List ℕ → Answer → Answer
@@ -57,8 +58,8 @@ reported report name answer =
     record { status = answer.status; output = entry report name answer; told = answer.told }
 
 -- the tests of a set, so many, as they are reported
-abbrev pub tap_sheet : ℕ → List ℕ → List ℕ
-tap_sheet count entries = codes "TAP version 14\n1.." ++ (decimal count ++ (codes "\n" ++ entries))
+abbrev pub tap_sheet : List ℕ → ℕ → List ℕ → List ℕ
+tap_sheet head count entries = head ++ (decimal count ++ (codes "\n" ++ entries))
 
 abbrev pub suite_head : List ℕ → ℕ → List ℕ
 suite_head set count =
@@ -70,7 +71,8 @@ suite set count entries = suite_head set count ++ (entries ++ codes "</testsuite
 
 abbrev pub sheet : Report → List ℕ → ℕ → List ℕ → List ℕ
 sheet Lines set count entries = entries
-sheet Tap set count entries = tap_sheet count entries
+sheet Tap13 set count entries = tap_sheet (codes "TAP version 13\n1..") count entries
+sheet Tap14 set count entries = tap_sheet (codes "TAP version 14\n1..") count entries
 sheet JUnit set count entries = suite set count entries
 
 abbrev pub framed : Report → List ℕ → ℕ → Answer → Answer

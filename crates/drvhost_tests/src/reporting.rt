@@ -83,7 +83,8 @@ fn entry(alloc: Global, report: Report, name: &str, told: &Told) -> Result<Vec<u
 {
     match report {
         Report::Lines => copy_of(alloc, told.output()),
-        Report::Tap => tap_point(alloc, name, told),
+        Report::Tap13 => tap_point(alloc, name, told),
+        Report::Tap14 => tap_point(alloc, name, told),
         Report::JUnit => test_case(alloc, name, told),
     }
 }
@@ -100,7 +101,8 @@ fn sheet(
 {
     match report {
         Report::Lines => copy_of(alloc, entries),
-        Report::Tap => tap_sheet(alloc, count, entries),
+        Report::Tap13 => tap_sheet(alloc, b"TAP version 13\n1..", count, entries),
+        Report::Tap14 => tap_sheet(alloc, b"TAP version 14\n1..", count, entries),
         Report::JUnit => suite(alloc, set, count, entries),
     }
 }
@@ -134,12 +136,17 @@ fn tap_point(alloc: Global, name: &str, told: &Told) -> Result<Vec<u8>, AllocErr
     Ok(text)
 }
 
-/// Tests in the form of TAP, so many.
-fn tap_sheet(alloc: Global, count: usize, entries: &[u8]) -> Result<Vec<u8>, AllocError>
-    ensures { IfOk result (λ text. text.items ≡ tap_sheet count entries.now) }
+/// Tests in the form of TAP, so many, behind this head.
+fn tap_sheet(
+    alloc: Global,
+    head: &[u8],
+    count: usize,
+    entries: &[u8],
+) -> Result<Vec<u8>, AllocError>
+    ensures { IfOk result (λ text. text.items ≡ tap_sheet head.now count entries.now) }
 {
     let mut text = Vec::new(alloc);
-    add_numbered(&mut text, b"TAP version 14\n1..", count as u64, b"\n")?;
+    add_numbered(&mut text, head, count as u64, b"\n")?;
     add(&mut text, entries)?;
     Ok(text)
 }

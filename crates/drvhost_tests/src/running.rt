@@ -8,12 +8,12 @@ ghost use Rattle.answer_views.specs.Told.{IsTellOf};
 ghost use Rattle.drvhost_tests.specs.Tests.{IsRunOf, IsRunTold, IsToldWith, usual};
 ghost use Rattle.scenario_text.specs.Listing.{scenario_in};
 
+use answer::as_text::Text;
+use answer::run::ToRun;
 use answer_scenarios::telling::{Asked, tell_text};
-use answer_views::tell::{Telling, tell};
-use drvhost_devices::device::{Reader, Source, Writer};
-use drvhost_devices::fault::Fault;
+use answer_views::tell::InWords;
 use drvhost_devices::manner::{Detail, Manner, Strictness};
-use drvhost_devices::told::{Told, collected};
+use drvhost_devices::told::Told;
 use drvhost_devices::verbosity::Verbosity;
 use drvhost_devices::verification::Verification;
 use image::DriverSet;
@@ -93,24 +93,12 @@ fn tell_listed(alloc: Global, bytes: &[u8], schedule: &[u8]) -> Result<Told, All
     ensures { IfOk result (IsTellOf Verification.Skipped usual (Bytes bytes.now)
         (Bytes schedule.now)) }
 {
-    let mut set = Reader::new(Some(bytes));
-    let mut events = Reader::new(Some(schedule));
-    let mut output = Writer::new(Vec::new(alloc));
-    let mut errors = Writer::new(Vec::new(alloc));
-    let telling = Telling {
+    let run = ToRun {
+        job: InWords { manner: USUAL },
+        form: Text,
         verification: Verification::Skipped,
-        manner: USUAL,
+        set: "",
+        input: "",
     };
-    let exit = tell(
-        alloc,
-        &mut set,
-        &mut events,
-        telling,
-        &mut output,
-        &mut errors,
-    );
-    if set.failures() > 0 || events.failures() > 0 {
-        return Err(AllocError);
-    }
-    collected(exit, 0, output, errors)
+    run.answer(alloc, bytes, schedule)
 }

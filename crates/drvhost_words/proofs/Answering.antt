@@ -11,8 +11,6 @@ use Rattle.drvhost_devices.specs.declared.verification.Verification.{Verificatio
 use Rattle.cli.specs.declared.job.Form.{Form}
 use Rattle.cli.specs.declared.job.Form.TheVariants.{Lines, Json}
 use Rattle.cli.specs.declared.job.Job.{Job}
-use Rattle.cli.specs.declared.job.Task.{Task}
-use Rattle.cli.specs.declared.job.Task.TheVariants.{Mend, List as Listing, Hunt, HuntExactly, Find, FindExactly}
 use Rattle.cli.specs.declared.job.Way.{Way}
 use Rattle.cli.specs.declared.job.Way.TheVariants.{Trace, TraceJson, Tell, TellJson, Draw, Schedule}
 use Rattle.cli.specs.declared.job.JobFault.{JobFault}
@@ -22,11 +20,8 @@ use Rattle.cli.specs.CommandLine.{Names, job_fault_status, job_fault_told, progr
 use Rattle.drvhost_files.specs.Files.{supply_of}
 use Rattle.drvhost_files.proofs.Known.{holds_known}
 use Rattle.drvhost_many.specs.All.{Counted}
-use Rattle.drvhost_many.proofs.Known.{judged_known}
-use Rattle.drvhost_words.specs.Program.{AreWarningsBy, EndsAtOnce, IsDoneOf, IsQuietly, IsRunBy, IsServedBy, IsTaskOf, IsUsage, OpensToTrace}
+use Rattle.drvhost_words.specs.Program.{AreWarningsBy, EndsAtOnce, IsQuietly, IsRunBy, IsServedBy, IsUsage, OpensToTrace}
 use Rattle.drvhost_words.specs.Returned.{count_of}
-use Rattle.drvhost_words.specs.declared.work.Work.{Work}
-use Rattle.drvhost_words.specs.declared.work.Work.TheVariants.{Do, Judge}
 use Rattle.drvhost_words.specs.Unread.{IsNamedUnread, SaysAround, SaysMore, SaysUnread}
 
 -- where nothing was written to the files beside
@@ -150,34 +145,6 @@ pub check_known : (known supply : Supply) → IsSuppliedAs known supply → (ans
     → IsCheckOf supply answer → IsCheckOf known answer
 check_known known supply h answer (bytes, holds, right) =
     (bytes, holds_known known supply bytes h holds, right)
-
-task_known : (task : Task) (name : List ℕ) (known supply : Supply) → IsSuppliedAs known supply
-    → (answer : Answer) → IsTaskOf task name supply answer → IsTaskOf task name known answer
-task_known (Mend tries Lines) name known supply h answer (bytes, holds, right) =
-    (bytes, holds_known known supply bytes h holds, right)
-task_known (Mend tries Json) name known supply h answer (bytes, holds, right) =
-    (bytes, holds_known known supply bytes h holds, right)
-task_known Listing name known supply h answer (bytes, holds, right) =
-    (bytes, holds_known known supply bytes h holds, right)
-task_known (Hunt reach Lines) name known supply h answer (bytes, holds, right) =
-    (bytes, holds_known known supply bytes h holds, right)
-task_known (Hunt reach Json) name known supply h answer (bytes, holds, right) =
-    (bytes, holds_known known supply bytes h holds, right)
-task_known (HuntExactly reach Lines) name known supply h answer (bytes, holds, right) =
-    (bytes, holds_known known supply bytes h holds, right)
-task_known (HuntExactly reach Json) name known supply h answer (bytes, holds, right) =
-    (bytes, holds_known known supply bytes h holds, right)
-task_known (Find reach) name known supply h answer (bytes, holds, right) =
-    (bytes, holds_known known supply bytes h holds, right)
-task_known (FindExactly reach) name known supply h answer (bytes, holds, right) =
-    (bytes, holds_known known supply bytes h holds, right)
-
-pub work_known : (work : Work) (name : List ℕ) (known supply : Supply) → IsSuppliedAs known supply
-    → (answer : Answer) → IsDoneOf work name supply answer → IsDoneOf work name known answer
-work_known (Judge judging) name known supply h answer right =
-    judged_known judging name known supply h answer right
-work_known (Do task) name known supply h answer right =
-    task_known task name known supply h answer right
 
 pub rewrite_known : (known supply : Supply) → IsSuppliedAs known supply → (answer : Answer)
     → IsRewriteOf supply answer → IsRewriteOf known answer

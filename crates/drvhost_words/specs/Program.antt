@@ -1,19 +1,21 @@
 -- How the program answers the words of its command line, which files it opens, and what it writes to
 -- one.
-use Rattle.std.specs.Prelude.{ℕ, ◌≡◌, ◌≢◌, ◌+◌, ◌++◌, ◌≤◌, ◌⊎◌, Bool, List, [], None, Option, Some, false, if◌then◌else◌, map, min, true, Result, Ok, Err, String, drop, string_bytes}
+use Rattle.std.specs.Prelude.{ℕ, ◌≡◌, ◌≢◌, ◌+◌, ◌++◌, ◌≤◌, ◌⊎◌, List, [], None, Option, Some, if◌then◌else◌, map, min, true, Result, Ok, Err, String, drop, string_bytes}
 use Rattle.std.specs.Borrow.{Bor}
 use Rattle.std.specs.Global.{Global, Vec}
 use Rattle.std.specs.declared.io.ErrorKind.{ErrorKind}
 use Rattle.std.specs.declared.io.ErrorKind.TheVariants.{OutOfMemory}
 use Rattle.clap.specs.Words.{Text, subcommand_of, takes}
 use Rattle.drvhost_devices.specs.Answer.{Answer, IsRuleExplained, IsUnopened, IsVersion}
-use Rattle.drvhost_devices.specs.Device.{MayBeClosed, Supply}
+use Rattle.drvhost_devices.specs.Device.{Holds, MayBeClosed, Supply}
 use Rattle.drvhost_devices.specs.declared.verification.Verification.{Verification}
 use Rattle.drvhost_devices.specs.declared.verification.Verification.TheVariants.{Required}
 use Rattle.drvhost_devices.specs.Ends.{Ends, HoldsRun, IsCheckOf, IsListOf, IsRewriteOf, IsTraceOf}
 use Rattle.answer_hunts.specs.Find.{IsFindOf}
-use Rattle.answer.specs.Told.{IsUnopenedJson}
-use Rattle.drvhost_formats.specs.Trace.{IsTraceJsonOf}
+use Rattle.answer.specs.declared.content.Content.{Content}
+use Rattle.answer.specs.declared.content.Content.TheVariants.{Whole, Unread, Unopened}
+use Rattle.answer.specs.declared.job.Job as job
+use Rattle.answer_runs.specs.InJson.{IsTraceJsonOf}
 use Rattle.answer_hunts.specs.declared.hunt.Way.{Way as Hunted}
 use Rattle.answer_hunts.specs.declared.hunt.Way.TheVariants.{Quick, Exact}
 use Rattle.answer_hunts.specs.Hunt.{IsHuntOfWay}
@@ -24,10 +26,13 @@ use Rattle.answer_mends.specs.declared.mend.Asked.{Asked}
 use Rattle.answer_mends.specs.Json.{IsMendJsonOf}
 use Rattle.answer_mends.specs.Mend.{IsMendOf}
 use Rattle.answer_scenarios.specs.Scenarios.{IsScheduleOf}
+use Rattle.answer_stats.specs.Json.{IsStatsJsonOf}
+use Rattle.answer_stats.specs.Stats.{IsStatsOf}
 use Rattle.answer_explain.specs.Explained.{IsLockOrderExplained}
 use Rattle.answer_runs.specs.Keeping.{IsKeptOf, IsKeptWith}
 use Rattle.answer_runs.specs.Readiness.{AreWarningsOf}
 use Rattle.answer_runs.specs.Served.{IsHostOf}
+use Rattle.answer_views.specs.InJson.{IsTellJsonOf}
 use Rattle.answer_views.specs.Told.{IsDrawOf, IsTellOf}
 use Rattle.cli.specs.declared.job.Form.{Form}
 use Rattle.cli.specs.declared.job.Form.TheVariants.{Lines, Json}
@@ -36,7 +41,7 @@ use Rattle.cli.specs.declared.job.Job.TheVariants.{Page as OfPage, OnPaths, Log,
 use Rattle.cli.specs.declared.job.Page.{Page}
 use Rattle.cli.specs.declared.job.Page.TheVariants.{Rule, LockOrder, Version}
 use Rattle.cli.specs.declared.job.Task.{Task}
-use Rattle.cli.specs.declared.job.Task.TheVariants.{Mend, List as Listing, Hunt, HuntExactly, Find, FindExactly}
+use Rattle.cli.specs.declared.job.Task.TheVariants.{Mend, List as Listing, Hunt, HuntExactly, Find, FindExactly, Stats}
 use Rattle.cli.specs.declared.job.Judging.{Judging}
 use Rattle.cli.specs.declared.job.Judging.TheVariants.{Check, CheckJson, Explain, ExplainJson}
 use Rattle.cli.specs.declared.job.Testing.{Testing}
@@ -48,7 +53,7 @@ use Rattle.drvhost_files.specs.declared.find.Found.{Found}
 use Rattle.drvhost_files.specs.declared.sought.Sought.{Sought}
 use Rattle.drvhost_files.specs.declared.sought.Sought.TheVariants.{Sets}
 use Rattle.drvhost_many.specs.All.{AreFound, EachEnds, IsAlone, IsUnfound, width_of}
-use Rattle.drvhost_many.specs.One.{IsJudged, is_in_json as judged_in_json}
+use Rattle.drvhost_many.specs.One.{IsFrom, IsJudgedFrom}
 use Rattle.drvhost_many.specs.Painted.{IsShown}
 use Rattle.drvhost_devices.specs.declared.coloring.Coloring.{Coloring}
 use Rattle.drvhost_devices.specs.declared.coloring.Coloring.TheVariants.{Always, Never}
@@ -58,9 +63,6 @@ use Rattle.drvhost_devices.specs.Painting.{is_painted}
 use Rattle.answer_logs.specs.Log.{PathsEnd as LogEnds}
 use Rattle.drvhost_tests.specs.Tests.{Asked as Tested, TestsEnd}
 use Rattle.drvhost_told.specs.Served.{IsHostJsonOf}
-use Rattle.drvhost_told.specs.Tell.{IsTellJsonOf}
-use Rattle.drvhost_words.specs.declared.work.Work.{Work}
-use Rattle.drvhost_words.specs.declared.work.Work.TheVariants.{Do, Judge}
 use Rattle.hunt_facts.specs.declared.bounds.Bounds.{Bounds}
 use Rattle.drvhost_words.specs.Unread.{IsNamedUnread, IsOneOf}
 
@@ -72,14 +74,7 @@ IsRunBy (TraceJson verification) name other set input =
 IsRunBy (Tell verification manner coloring) name other set input =
     IsShown coloring (IsTellOf verification manner set input)
 IsRunBy (TellJson verification strictness) name other set input =
-    IsTellJsonOf
-    (record {
-      set = name;
-      schedule = other;
-      verification = verification;
-      strictness = strictness;
-    })
-    set input
+    IsTellJsonOf verification strictness name.now other.now set input
 IsRunBy (Draw verification figure) name other set input = IsDrawOf verification figure set input
 IsRunBy (Schedule verification) name other set input = IsScheduleOf verification set input
 
@@ -134,6 +129,11 @@ abbrev pub IsMendIn : Form → Asked → List ℕ → Supply → Answer → Type
 IsMendIn Lines asked name = IsMendOf asked
 IsMendIn Json asked name = IsMendJsonOf asked name
 
+-- and what `stats` answers
+abbrev pub IsStatsBy : Form → List ℕ → Supply → Answer → Type 0
+IsStatsBy Lines name = IsStatsOf
+IsStatsBy Json name = IsStatsJsonOf name
+
 -- what a task with a set answers, by the name of its file and what this has
 abbrev pub IsTaskOf : Task → List ℕ → Supply → Answer → Type 0
 IsTaskOf (Mend tries form) name = IsMendIn form (record { tries = tries }) name
@@ -142,11 +142,7 @@ IsTaskOf (Hunt reach form) name = IsHuntIn form Quick reach name
 IsTaskOf (HuntExactly reach form) name = IsHuntIn form Exact reach name
 IsTaskOf (Find reach) name = IsFindOf Quick reach
 IsTaskOf (FindExactly reach) name = IsFindOf Exact reach
-
--- what any work with it does, by the name of its file and what this has
-abbrev pub IsDoneOf : Work → List ℕ → Supply → Answer → Type 0
-IsDoneOf (Judge judging) name = IsJudged judging name
-IsDoneOf (Do task) name = IsTaskOf task name
+IsTaskOf (Stats form) name = IsStatsBy form name
 
 -- a page that stands in the program
 abbrev pub IsPage : Page → Answer → Type 0
@@ -162,26 +158,30 @@ form_of_task (Hunt reach form) = form
 form_of_task (HuntExactly reach form) = form
 form_of_task (Find reach) = Lines
 form_of_task (FindExactly reach) = Lines
+form_of_task (Stats form) = form
 
--- and of any work with a set
-abbrev pub form_of_work : Work → Form
-form_of_work (Judge judging) = if judged_in_json judging then Json else Lines
-form_of_work (Do task) = form_of_task task
+-- what it answers for what was read of that file
+abbrev pub IsTaskFrom : Task → List ℕ → Content → Answer → Type 0
+IsTaskFrom task name = IsFrom (form_of_task task) (IsTaskOf task name) name
 
--- what is answered in a form where the file of a name can't be opened
-abbrev pub IsUnopenedIn : Form → List ℕ → Answer → Type 0
-IsUnopenedIn Lines = IsUnopened
-IsUnopenedIn Json = IsUnopenedJson
+-- what is read of a file that has this to give, where no read fails: all its bytes, or it can't be
+-- opened
+abbrev pub IsReadOf : Supply → Content → Type 0
+IsReadOf supply (Whole bytes) = Holds supply bytes.now
+IsReadOf supply Unread = ⊥
+IsReadOf supply Unopened = MayBeClosed supply
 
--- and by such work
-abbrev pub IsUnopenedBy : Work → List ℕ → Answer → Type 0
-IsUnopenedBy work = IsUnopenedIn (form_of_work work)
+-- what is right for the file of a name, where these are the right answers for what is read of it
+abbrev pub IsOfFile : (List ℕ → Content → Answer → Type 0) → (List ℕ → Supply) → List ℕ → Answer
+    → Type 0
+IsOfFile Right supply name answer =
+    (content : Content) × IsReadOf (supply name) content × Right name content answer
 
--- what is right for work with the set of the file of a name
-abbrev pub IsOfWork : Work → (List ℕ → Supply) → List ℕ → Answer → Type 0
-IsOfWork work supply name answer =
-    IsDoneOf work name (supply name) answer
-    ⊎ (MayBeClosed (supply name) × IsUnopenedBy work name answer)
+-- the right answers of a job for what is read of the file of a name
+abbrev pub IsRightOf : {J : Type 0} → job.Ghosts J → J → List ℕ → Content → Answer → Type 0
+IsRightOf its it name content answer =
+    (called : Bor (List ℕ)) × (called.now ≡ name)
+    × its.right it (record { name = called; content = content }) answer
 
 -- what is right where a mend of the text of the file of a name is applied
 abbrev pub IsOfApply : Applying → (List ℕ → Supply) → List ℕ → Answer → Type 0
@@ -232,13 +232,13 @@ pub record EndsWarned (Warns Tells : List ℕ → Type 0) (Right : Answer → Ty
   pub ends : EndsTelling Tells Right reads writes before after status rest
   pub told_is : told ≡ warnings ++ rest
 
--- how work with the set of the file of a name ends: that file is opened, and named behind the answer
--- where it can't be read
-abbrev pub WorkEnds : Work → (List ℕ → Supply) → List ℕ → ℕ → ℕ → ℕ → Option (List ℕ)
-    → Option (List ℕ) → ℕ → List ℕ → Type 0
-WorkEnds work supply name opened reads writes before after status told =
+-- how a job with the set of the file of a name ends, where these are the right answers for what is
+-- read of it: that file is opened, and named behind the answer where it can't be read
+abbrev pub WorkEnds : (List ℕ → Content → Answer → Type 0) → (List ℕ → Supply) → List ℕ → ℕ → ℕ → ℕ
+    → Option (List ℕ) → Option (List ℕ) → ℕ → List ℕ → Type 0
+WorkEnds Right supply name opened reads writes before after status told =
     (opened ≡ 1) × EndsTelling (IsNamedUnread (λ unread. unread ≡ name) 0 reads)
-    (IsOfWork work supply name) reads writes before after status told
+    (IsOfFile Right supply name) reads writes before after status told
 
 -- how the judging of the set of one file alone does: a verdict in lines of text has no name behind it
 abbrev pub FileEnds : Judging → (List ℕ → Supply) → List ℕ → ℕ → ℕ → ℕ → Option (List ℕ)
@@ -246,11 +246,13 @@ abbrev pub FileEnds : Judging → (List ℕ → Supply) → List ℕ → ℕ →
 FileEnds Check supply name opened reads writes before after status told =
     (opened ≡ 1) × Ends (IsCheckOf (supply name)) reads writes before after status told
 FileEnds CheckJson supply name opened reads writes before after status told =
-    WorkEnds (Judge CheckJson) supply name opened reads writes before after status told
+    WorkEnds (IsJudgedFrom CheckJson) supply name opened reads writes before after status told
 FileEnds (Explain extent coloring) supply name opened reads writes before after status told =
-    WorkEnds (Judge (Explain extent coloring)) supply name opened reads writes before after status told
+    WorkEnds (IsJudgedFrom (Explain extent coloring)) supply name opened reads writes before after
+    status told
 FileEnds (ExplainJson extent) supply name opened reads writes before after status told =
-    WorkEnds (Judge (ExplainJson extent)) supply name opened reads writes before after status told
+    WorkEnds (IsJudgedFrom (ExplainJson extent)) supply name opened reads writes before after status
+    told
 
 -- so many jobs share several files, where so many are asked for: 64 at most
 abbrev pub IsJobCount : Option ℕ → ℕ → Type 0
@@ -319,7 +321,7 @@ JobEnds surroundings stands supply (Apply set tries wanted) opened reads writes 
     (IsOfApply (record { tries = tries; wanted = wanted }) supply set.now) reads writes before after
     status told
 JobEnds surroundings stands supply (OnSet set task) opened reads writes before after status told =
-    WorkEnds (Do task) supply set.now opened reads writes before after status told
+    WorkEnds (IsTaskFrom task) supply set.now opened reads writes before after status told
 JobEnds surroundings stands supply (OnRun names way) opened reads writes before after status told =
     RunEnds (settled_way surroundings way) supply names.set names.input opened reads writes before
     after status told

@@ -1,71 +1,50 @@
 //! What the program answers.
 
-ghost use Rattle.std.specs.Prelude.{◌≡◌, ◌+◌, ◌<◌, ◌^◌, ◌⊎◌, ℕ, List, Option};
-ghost use Rattle.std.specs.Prelude.{drop, map, string_bytes, true};
-ghost use Rattle.drvhost_words.specs.Program.{EndsAtOnce, FileEnds, IsAnswerToLost, IsDoneOf};
-ghost use Rattle.drvhost_words.specs.Program.{IsHuntIn, IsJobCount, IsMendIn, IsOfApply, IsOfWork};
-ghost use Rattle.drvhost_words.specs.Program.{IsPage, IsQuietly};
-ghost use Rattle.drvhost_words.specs.Program.{IsRunBy, IsTaskOf, IsUnopenedBy, JobEnds, JobStores};
-ghost use Rattle.drvhost_words.specs.Program.{MendsFile, OpensToTrace, PathsEnd, ProgramEnds};
-ghost use Rattle.drvhost_words.specs.Program.{ProgramStores, RewritesFile, WordsEnd, WordsStore};
-ghost use Rattle.drvhost_words.specs.Program.{asked_by, settled_judging, verification_of};
+ghost use Rattle.std.specs.Prelude.{◌≡◌, ◌+◌, ◌<◌, ◌^◌, ℕ, List, Option};
+ghost use Rattle.std.specs.Prelude.{drop, map, string_bytes, IfOk};
+ghost use Rattle.drvhost_words.specs.Program.{EndsAtOnce, FileEnds, IsAnswerToLost, IsJobCount};
+ghost use Rattle.drvhost_words.specs.Program.{IsOfApply, IsPage, IsQuietly, JobEnds, JobStores};
+ghost use Rattle.drvhost_words.specs.Program.{MendsFile, PathsEnd, ProgramEnds, ProgramStores};
+ghost use Rattle.drvhost_words.specs.Program.{RewritesFile, WordsEnd, WordsStore};
+ghost use Rattle.drvhost_words.specs.Program.{asked_by, settled_judging};
 ghost use Rattle.drvhost_many.specs.All.{Counted};
 ghost use Rattle.drvhost_words.specs.Devices.{CountedOver};
 ghost use Rattle.drvhost_tests.specs.Told.{asked_of};
-ghost use Rattle.drvhost_words.specs.Unread.{IsNamedUnread, IsOneOf, SaysMore};
+ghost use Rattle.drvhost_words.specs.Unread.{IsNamedUnread, SaysMore};
 ghost use Rattle.drvhost_devices.specs.Device.{CanCount, Says};
-ghost use Rattle.drvhost_devices.specs.Ends.{Answers, HoldsRun, IsCheckOf, IsRewriteOf};
-ghost use Rattle.drvhost_devices.specs.Ready.{CanAnswer, CanWrite};
+ghost use Rattle.drvhost_devices.specs.Ends.{Answers, IsCheckOf, IsRewriteOf};
+ghost use Rattle.drvhost_devices.specs.Ready.{CanWrite};
 ghost use Rattle.drvhost_files.specs.Kept.{OnlyReads};
 ghost use Rattle.drvhost_files.specs.Ready.{CanCreate, CanOpen, CanOpenMany};
-ghost use Rattle.answer_explain.specs.Devices.{AnswersBy, AnswersOver};
+ghost use Rattle.answer_explain.specs.Devices.{AnswersOver};
 
 use crate::coloring::{settled_judging, settled_way};
 use crate::keeping::keep_files;
-use crate::returned::close_both;
+use crate::running::{Running, run_files};
 use crate::serving::host_files;
-use crate::telling::{Shown, tell_shown};
-use crate::unread::{tell_if_unread, tell_which_unread};
-use crate::work::{Work, form_of_work};
-use answer::as_json::Json;
-use answer::as_text::Text;
-use answer::check::Judgement;
-use answer::deliver::{deliver, write_answer};
-use answer::form::Form;
-use answer::judged::{self, Unjudged};
-use answer::list::Listing;
+use crate::task::{Tasked, answer_file};
+use crate::unread::tell_if_unread;
+use answer::deliver::write_answer;
 use answer_explain::rewriting::rewrite;
 use answer_explain::rule::{explain_lock_order, explain_rule};
 use answer_explain::version::version;
-use answer_hunts::find::Finding;
-use answer_hunts::hunt::{self, Hunting};
 use answer_logs::logging::{Log, log_paths};
 use answer_mends::apply::{self, apply};
-use answer_mends::as_json::MendsJson;
-use answer_mends::mend::{self, MendsText};
-use answer_runs::trace::trace;
-use answer_scenarios::schedule::schedule;
-use answer_views::draw::{Drawing, draw};
-use cli::job::{
-    self, FileNames, Job, JobFault, Judged, Judging, Page, Task, Testing, Way,
-    refuse_unknown_words, refuse_words,
-};
-use drvhost_devices::device::{Sink, Source};
+use cli::job::{Job, JobFault, Judged, Judging, Page, Testing, refuse_unknown_words, refuse_words};
+use drvhost_devices::device::Sink;
 use drvhost_devices::fault::no_memory;
 use drvhost_devices::jobs::MAX_JOBS;
 use drvhost_devices::surroundings::Surroundings;
+use drvhost_devices::told::Told;
 use drvhost_devices::unopened::tell_unopened;
-use drvhost_files::files::{Files, Later, Pending};
+use drvhost_files::files::{Files, Pending};
 use drvhost_files::sought::{Search, Sought};
-use drvhost_formats::trace::{Asked, trace_json};
-use drvhost_many::file::judge;
+use drvhost_many::file::{Verdict, judge};
 use drvhost_many::judging::JudgedFiles;
 use drvhost_many::many::{Sets, answer_each};
 use drvhost_many::paths::{alone, find_all};
 use drvhost_tests::test::{Tests, test};
-use drvhost_told::tell::{self, tell_json};
-use hunt_facts::reach::Reach;
-use report_progress::progress::{Progress, Silent};
+use report_progress::progress::Progress;
 use std::alloc::{AllocError, Global};
 use std::io::ErrorKind;
 use std::sync::Wait;
@@ -183,7 +162,7 @@ fn perform<F: JudgedFiles, O: Sink, E: Sink, R: Threads + Wait + Sync + Progress
 {
     let alloc = setting.alloc;
     match job {
-        Job::Page(page) => write_page(alloc, *page, out, err),
+        Job::Page(page) => write_answer(answer_page(alloc, *page), out, err),
         Job::OnPaths(judged) => judge_paths(rt, setting, judged, files, out, err),
         Job::Log { paths, logging } => {
             let log = Log {
@@ -206,11 +185,11 @@ fn perform<F: JudgedFiles, O: Sink, E: Sink, R: Threads + Wait + Sync + Progress
             mend_file(alloc, Mending { set, asked }, files, out, err)
         }
         Job::OnSet { set, task } => {
-            let beside = Beside {
-                alloc,
+            let tasked = Tasked {
+                task: *task,
                 progress: rt,
             };
-            work_file(&beside, Work::Do(*task), set, files, out, err)
+            answer_file(alloc, &tasked, set, files, out, err)
         }
         Job::OnRun { names, way } => {
             let names = *names;
@@ -236,16 +215,14 @@ fn tests_of<'n>(testing: &'n Testing<'n>, jobs: u8) -> Tests<'n>
     }
 }
 
-/// Writes a page.
-fn write_page<O: Sink, E: Sink>(alloc: Global, page: Page, out: &mut O, err: &mut E) -> u8
-    requires { CanWrite O.Sink E.Sink out.old err.old }
-    ensures { (reads : ℕ) → AnswersOver O.Sink E.Sink (IsPage page)
-        reads reads out.old out.new err.old err.new result }
+/// A page that stands in the program.
+fn answer_page(alloc: Global, page: Page) -> Result<Told, AllocError>
+    ensures { IfOk result (IsPage page) }
 {
     match page {
-        Page::Rule(rule) => explain_rule(alloc, rule, out, err),
-        Page::LockOrder => explain_lock_order(alloc, out, err),
-        Page::Version => version(out, err),
+        Page::Rule(rule) => explain_rule(alloc, rule),
+        Page::LockOrder => explain_lock_order(alloc),
+        Page::Version => version(alloc),
     }
 }
 
@@ -324,11 +301,7 @@ fn judge_file<F: Files, O: Sink, E: Sink>(
     match judging {
         Judging::Check => check_file(alloc, set, files, out, err),
         Judging::CheckJson | Judging::Explain(_, _) | Judging::ExplainJson(_) => {
-            let beside = Beside {
-                alloc,
-                progress: &Silent,
-            };
-            work_file(&beside, Work::Judge(judging), set, files, out, err)
+            answer_file(alloc, &Verdict { judging }, set, files, out, err)
         }
     }
 }
@@ -352,242 +325,6 @@ fn check_file<F: Files, O: Sink, E: Sink>(
     let status = judge(alloc, Judging::Check, set, &mut file, out, err);
     files.close(file);
     status
-}
-
-/// What some work has beside the files: memory, and whom it tells how far it has come.
-#[derive(Drop)]
-struct Beside<'p, P> {
-    alloc: Global,
-    progress: &'p P,
-}
-
-impl<'p, P: Progress> Beside<'p, P> {
-    /// A hunt in such a way, within such a reach.
-    fn hunting(&self, way: hunt::Way, reach: Reach) -> Hunting<'p, P>
-        ensures way { result.way ≡ way }
-        ensures reach { result.reach ≡ reach }
-    {
-        Hunting {
-            reach,
-            way,
-            progress: self.progress,
-        }
-    }
-
-    /// The same, told in a form.
-    fn hunted<F>(&self, way: hunt::Way, reach: Reach, form: F) -> Unjudged<Hunting<'p, P>, F>
-        ensures way { result.job.way ≡ way }
-        ensures reach { result.job.reach ≡ reach }
-    {
-        Unjudged {
-            job: self.hunting(way, reach),
-            form,
-        }
-    }
-
-    /// The same as text, but of a run that is found a scenario is written.
-    fn found(&self, way: hunt::Way, reach: Reach) -> Unjudged<Finding<'p, P>, Text>
-        ensures way { result.job.hunting.way ≡ way }
-        ensures reach { result.job.hunting.reach ≡ reach }
-    {
-        Unjudged {
-            job: Finding {
-                hunting: self.hunting(way, reach),
-            },
-            form: Text,
-        }
-    }
-}
-
-/// Does some work with the set of a file. One that can't be opened or read is named.
-fn work_file<F: Files, O: Sink, E: Sink, P: Progress>(
-    beside: &Beside<'_, P>,
-    work: Work,
-    set: &str,
-    files: &mut F,
-    out: &mut O,
-    err: &mut E,
-) -> u8
-    requires files { CanOpen F.Files 1 files.old }
-    requires sinks { CanWrite O.Sink E.Sink out.old err.old }
-    ensures answers { AnswersBy O.Sink E.Sink
-        (SaysMore (IsNamedUnread (λ name. name ≡ set.now)
-        (F.failures files.old) (F.failures files.new)))
-        (IsOfWork work (F.supply files.old) set.now)
-        (F.failures files.old) (F.failures files.new) out.old out.new err.old err.new result }
-    ensures opened { F.opened files.new ≡ F.opened files.old + 1 }
-    ensures kept { OnlyReads F.Files files.old files.new }
-{
-    let failures = err.failures();
-    let mut file = files.open(set);
-    if files.is_closed(&file) {
-        files.close(file);
-        return refuse_unopened(beside.alloc, work, set, out, err);
-    }
-    let status = perform_work(beside, work, set, &mut file, out, err);
-    tell_if_unread(set, &file, failures, err);
-    files.close(file);
-    status
-}
-
-/// Tells that the file of the set can't be opened that some work is to be done with.
-fn refuse_unopened<O: Sink, E: Sink>(
-    alloc: Global,
-    work: Work,
-    name: &str,
-    out: &mut O,
-    err: &mut E,
-) -> u8
-    requires { CanWrite O.Sink E.Sink out.old err.old }
-    ensures { (reads : ℕ) → AnswersOver O.Sink E.Sink (IsUnopenedBy work name.now)
-        reads reads out.old out.new err.old err.new result }
-{
-    match form_of_work(work) {
-        job::Form::Lines => tell_unopened(name, err),
-        job::Form::Json => write_answer(Json.unopened(alloc, name), out, err),
-    }
-}
-
-/// Does some work with the set of a source, whose file has this name.
-fn perform_work<S: Source, O: Sink, E: Sink, P: Progress>(
-    beside: &Beside<'_, P>,
-    work: Work,
-    name: &str,
-    set: &mut S,
-    out: &mut O,
-    err: &mut E,
-) -> u8
-    requires { CanAnswer O.Sink E.Sink (S.failures set.old) out.old err.old }
-    ensures { AnswersOver O.Sink E.Sink (IsDoneOf work name.now (S.supply set.old))
-        (S.failures set.old) (S.failures set.new) out.old out.new err.old err.new result }
-{
-    match work {
-        Work::Judge(judging) => judge(beside.alloc, judging, name, set, out, err),
-        Work::Do(task) => fulfil(beside, task, name, set, out, err),
-    }
-}
-
-/// Does a task with the set of a source, whose file has this name.
-fn fulfil<S: Source, O: Sink, E: Sink, P: Progress>(
-    beside: &Beside<'_, P>,
-    task: Task,
-    name: &str,
-    set: &mut S,
-    out: &mut O,
-    err: &mut E,
-) -> u8
-    requires { CanAnswer O.Sink E.Sink (S.failures set.old) out.old err.old }
-    ensures { AnswersOver O.Sink E.Sink (IsTaskOf task name.now (S.supply set.old))
-        (S.failures set.old) (S.failures set.new) out.old out.new err.old err.new result }
-{
-    let alloc = beside.alloc;
-    match task {
-        Task::Mend(tries, form) => {
-            let asked = mend::Asked { tries };
-            tell_mends(alloc, Offered { asked, form }, name, set, out, err)
-        }
-        Task::List => {
-            let listed = Unjudged {
-                job: Listing,
-                form: Text,
-            };
-            deliver(&listed, alloc, name, set, out, err)
-        }
-        Task::Hunt(reach, form) => {
-            let way = hunt::Way::Quick;
-            tell_hunt(beside, Within { way, reach, form }, name, set, out, err)
-        }
-        Task::HuntExactly(reach, form) => {
-            let way = hunt::Way::Exact;
-            tell_hunt(beside, Within { way, reach, form }, name, set, out, err)
-        }
-        Task::Find(reach) => {
-            let found = beside.found(hunt::Way::Quick, reach);
-            deliver(&found, alloc, name, set, out, err)
-        }
-        Task::FindExactly(reach) => {
-            let found = beside.found(hunt::Way::Exact, reach);
-            deliver(&found, alloc, name, set, out, err)
-        }
-    }
-}
-
-/// Verdicts as mends, in a form.
-fn mended_in<F>(form: F) -> judged::Judged<Judgement, F>
-    ensures { result.form ≡ form }
-{
-    judged::Judged {
-        job: Judgement,
-        form,
-    }
-}
-
-/// Mends that are asked for, and the form in which they are told.
-#[derive(Clone, Copy)]
-struct Offered {
-    asked: mend::Asked,
-    form: job::Form,
-}
-
-/// Tells mends of the set of a source, whose file has this name.
-fn tell_mends<S: Source, O: Sink, E: Sink>(
-    alloc: Global,
-    offered: Offered,
-    name: &str,
-    set: &mut S,
-    out: &mut O,
-    err: &mut E,
-) -> u8
-    requires { CanAnswer O.Sink E.Sink (S.failures set.old) out.old err.old }
-    ensures { AnswersOver O.Sink E.Sink
-        (IsMendIn offered.form offered.asked name.now (S.supply set.old))
-        (S.failures set.old) (S.failures set.new) out.old out.new err.old err.new result }
-{
-    let asked = offered.asked;
-    match offered.form {
-        job::Form::Lines => {
-            let mended = mended_in(MendsText { asked });
-            deliver(&mended, alloc, name, set, out, err)
-        }
-        job::Form::Json => {
-            let mended = mended_in(MendsJson { asked });
-            deliver(&mended, alloc, name, set, out, err)
-        }
-    }
-}
-
-/// A hunt in such a way, within such a reach, and the form in which it is told.
-#[derive(Clone, Copy)]
-struct Within {
-    way: hunt::Way,
-    reach: Reach,
-    form: job::Form,
-}
-
-/// Tells a hunt through the runs of the set of a source, whose file has this name.
-fn tell_hunt<S: Source, O: Sink, E: Sink, P: Progress>(
-    beside: &Beside<'_, P>,
-    within: Within,
-    name: &str,
-    set: &mut S,
-    out: &mut O,
-    err: &mut E,
-) -> u8
-    requires { CanAnswer O.Sink E.Sink (S.failures set.old) out.old err.old }
-    ensures { AnswersOver O.Sink E.Sink
-        (IsHuntIn within.form within.way within.reach name.now (S.supply set.old))
-        (S.failures set.old) (S.failures set.new) out.old out.new err.old err.new result }
-{
-    match within.form {
-        job::Form::Lines => {
-            let hunted = beside.hunted(within.way, within.reach, Text);
-            deliver(&hunted, beside.alloc, name, set, out, err)
-        }
-        job::Form::Json => {
-            let hunted = beside.hunted(within.way, within.reach, Json);
-            deliver(&hunted, beside.alloc, name, set, out, err)
-        }
-    }
 }
 
 /// Writes the image of the set of a file to another one, which is opened only once the image stands
@@ -673,105 +410,4 @@ fn mend_file<F: Files, O: Sink, E: Sink>(
         files.keep(set, target);
     }
     status
-}
-
-/// A set that is run by the input of another file.
-#[derive(Clone, Copy)]
-struct Running<'n> {
-    names: FileNames<'n>,
-    way: Way,
-}
-
-/// Runs the set of a file by the input of another one, which is opened for a run alone. The one
-/// that can't be read is named.
-fn run_files<F: Files, O: Sink, E: Sink>(
-    alloc: Global,
-    running: Running<'_>,
-    files: &mut F,
-    out: &mut O,
-    err: &mut E,
-) -> u8
-    requires files { CanOpen F.Files 2 files.old }
-    requires sinks { CanWrite O.Sink E.Sink out.old err.old }
-    ensures answers { AnswersBy O.Sink E.Sink
-        (SaysMore (IsNamedUnread (IsOneOf running.entry.names.set.now running.entry.names.input.now)
-        (F.failures files.old) (F.failures files.new)))
-        (IsRunBy running.entry.way
-        running.entry.names.set running.entry.names.input
-        (F.supply files.old running.entry.names.set.now)
-        (F.supply files.old running.entry.names.input.now))
-        (F.failures files.old) (F.failures files.new) out.old out.new err.old err.new result }
-    ensures opened { (count : ℕ)
-        × OpensToTrace (verification_of running.entry.way)
-        (F.supply files.old running.entry.names.set.now) count
-        × (F.opened files.new ≡ F.opened files.old + count) }
-    ensures kept { OnlyReads F.Files files.old files.new }
-{
-    let names = running.names;
-    let failures = err.failures();
-    let mut file = files.open(names.set);
-    let mut later = Later::new(files, names.input);
-    let status = run(alloc, running, &mut file, &mut later, out, err);
-    tell_which_unread(names, &file, &later, failures, err);
-    let input = later.into_file();
-    close_both(files, file, input);
-    status
-}
-
-/// Runs the set of a source by the input of another one.
-fn run<S: Source, P: Source, O: Sink, E: Sink>(
-    alloc: Global,
-    running: Running<'_>,
-    set: &mut S,
-    input: &mut P,
-    out: &mut O,
-    err: &mut E,
-) -> u8
-    requires devices { CanAnswer O.Sink E.Sink (S.failures set.old) out.old err.old }
-    requires input { CanCount (P.failures input.old) }
-    ensures unread { (input.new ≡ input.old)
-        ⊎ HoldsRun (verification_of running.entry.way) (S.supply set.old) }
-    ensures answers { AnswersOver O.Sink E.Sink (IsRunBy running.entry.way
-        running.entry.names.set running.entry.names.input
-        (S.supply set.old) (P.supply input.old))
-        (S.failures set.old + P.failures input.old) (S.failures set.new + P.failures input.new)
-        out.old out.new err.old err.new result }
-{
-    match running.way {
-        Way::Trace(verification) => trace(alloc, set, input, verification, out, err),
-        Way::TraceJson(verification) => {
-            let asked = Asked {
-                set: running.names.set,
-                schedule: running.names.input,
-                verification,
-            };
-            trace_json(alloc, asked, set, input, out, err)
-        }
-        Way::Tell(verification, manner, coloring) => {
-            let shown = Shown {
-                verification,
-                manner,
-                coloring,
-            };
-            tell_shown(alloc, set, input, shown, out, err)
-        }
-        Way::TellJson(verification, strictness) => {
-            let names = running.names;
-            let asked = tell::Asked {
-                set: names.set,
-                schedule: names.input,
-                verification,
-                strictness,
-            };
-            tell_json(alloc, asked, set, input, out, err)
-        }
-        Way::Draw(verification, figure) => {
-            let drawing = Drawing {
-                verification,
-                figure,
-            };
-            draw(alloc, drawing, set, input, out, err)
-        }
-        Way::Schedule(verification) => schedule(alloc, verification, set, input, out, err),
-    }
 }

@@ -1,20 +1,25 @@
 //! Told runs, in colour or not.
 
-ghost use Rattle.std.specs.Prelude.{◌≡◌, ◌+◌, ◌⊎◌};
+ghost use Rattle.std.specs.Prelude.{◌≡◌, ◌+◌, ◌⊎◌, IfErr, IfOk};
 ghost use Rattle.drvhost_devices.specs.Device.{CanCount};
 ghost use Rattle.drvhost_devices.specs.Ends.{HoldsRun};
+ghost use Rattle.drvhost_devices.specs.Fault.{reads_failed};
 ghost use Rattle.drvhost_devices.specs.Ready.{CanAnswer};
 ghost use Rattle.answer_explain.specs.Devices.{AnswersOver};
 ghost use Rattle.drvhost_many.specs.Painted.{IsShown};
 ghost use Rattle.answer_views.specs.Told.{IsTellOf};
 
-use answer_views::tell::{Telling, tell};
+use answer::as_text::Text;
+use answer::deliver::{tell_unread, write_answer};
+use answer::run::ToRun;
+use answer_views::tell::InWords;
 use drvhost_devices::coloring::Coloring;
-use drvhost_devices::device::{Sink, Source, Writer};
+use drvhost_devices::device::{Sink, Source};
+use drvhost_devices::fault::Fault;
 use drvhost_devices::manner::Manner;
-use drvhost_devices::told::collected;
+use drvhost_devices::told::Told;
 use drvhost_devices::verification::Verification;
-use drvhost_many::painting::show;
+use drvhost_many::painting::colored;
 use std::alloc::Global;
 
 /// How a run is told, and whether in colour.
@@ -25,14 +30,13 @@ pub(crate) struct Shown {
     pub(crate) coloring: Coloring,
 }
 
-/// Tells the run of a set by a schedule, in colour where it is always chosen: with the paint taken
-/// out, what goes out is then what [`tell`] writes, and the exit status is the same. It stands in
-/// memory before any of it goes out.
+/// Tells the run of the set of a source by the schedule of another one, in colour where it is
+/// always chosen: with the paint taken out it is the same.
 pub(crate) fn tell_shown<S: Source, P: Source, O: Sink, E: Sink>(
     alloc: Global,
+    shown: Shown,
     set: &mut S,
     schedule: &mut P,
-    shown: Shown,
     out: &mut O,
     err: &mut E,
 ) -> u8
@@ -46,28 +50,38 @@ pub(crate) fn tell_shown<S: Source, P: Source, O: Sink, E: Sink>(
         (S.failures set.new + P.failures schedule.new)
         out.old out.new err.old err.new result }
 {
-    let telling = Telling {
-        verification: shown.verification,
-        manner: shown.manner,
-    };
-    match shown.coloring {
-        Coloring::Always => {
-            let before = failures_of(set, schedule);
-            let mut output = Writer::new(Vec::new(alloc));
-            let mut errors = Writer::new(Vec::new(alloc));
-            let exit = tell(alloc, set, schedule, telling, &mut output, &mut errors);
-            let after = failures_of(set, schedule);
-            let told = collected(exit, 0, output, errors);
-            show(alloc, before < after, told, out, err)
-        }
-        Coloring::Auto => tell(alloc, set, schedule, telling, out, err),
-        Coloring::Never => tell(alloc, set, schedule, telling, out, err),
+    match answer_shown(alloc, shown, set, schedule) {
+        Ok(told) => write_answer(Ok(told), out, err),
+        Err(fault) => tell_unread(fault, err),
     }
 }
 
-/// How many reads of two sources failed.
-fn failures_of<S: Source, P: Source>(set: &S, schedule: &P) -> u128
-    ensures { result ≡ S.failures set.now + P.failures schedule.now }
+/// What is told of it.
+fn answer_shown<S: Source, P: Source>(
+    alloc: Global,
+    shown: Shown,
+    set: &mut S,
+    schedule: &mut P,
+) -> Result<Told, Fault>
+    requires set { CanCount (S.failures set.old) }
+    requires schedule { CanCount (P.failures schedule.old) }
+    ensures unread { (schedule.new ≡ schedule.old)
+        ⊎ HoldsRun shown.verification (S.supply set.old) }
+    ensures told { IfOk result (IsShown shown.coloring
+        (IsTellOf shown.verification shown.manner (S.supply set.old) (P.supply schedule.old))) }
+    ensures fault { IfErr result (λ fault. (fault ≡ Fault.Read) ⊎ (fault ≡ Fault.Memory)) }
+    ensures reads { S.failures set.new + P.failures schedule.new
+        ≡ (S.failures set.old + P.failures schedule.old) + reads_failed result }
 {
-    set.failures() as u128 + schedule.failures() as u128
+    let run = ToRun {
+        job: InWords {
+            manner: shown.manner,
+        },
+        form: Text,
+        verification: shown.verification,
+        set: "",
+        input: "",
+    };
+    let plain = run.read(alloc, set, schedule)?;
+    Ok(colored(alloc, shown.coloring, plain)?)
 }

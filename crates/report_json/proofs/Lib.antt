@@ -1,3 +1,4 @@
 pub mod Steps
 pub mod ReadBack
 pub mod Rules
+pub mod Routines

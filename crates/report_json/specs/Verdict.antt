@@ -15,16 +15,19 @@ abbrev pub name_json : {A : Type 0} → Option (String A) → Json
 name_json None = null
 name_json (Some name) = string (string_bytes name)
 
--- a routine of an accepted set
-abbrev pub routine_json : CertifiedRoutine → Json
-routine_json routine =
-    object
-    (member (codes "driver") (number (decimal routine.driver))
+-- the members of a routine of an accepted set, before others
+abbrev pub routine_members : CertifiedRoutine → Members → Members
+routine_members routine others =
+    member (codes "driver") (number (decimal routine.driver))
     (member (codes "routine") (number (decimal routine.routine))
     (member (codes "name") (name_json routine.name)
     (member (codes "sort") (string (sort_text routine.sort))
     (member (codes "certificate") (number (decimal routine.certificate))
-    no_members)))))
+    others))))
+
+-- such a routine
+abbrev pub routine_json : CertifiedRoutine → Json
+routine_json routine = object (routine_members routine no_members)
 
 abbrev pub routines_json : List CertifiedRoutine → Items
 routines_json [] = no_items

@@ -43,6 +43,14 @@ impl JsonLines {
         self.text.as_slice()
     }
 
+    /// The lines, as nothing but their bytes.
+    pub fn into_bytes(self) -> Vec<u8>
+        ensures { result.items ≡ self }
+    {
+        let JsonLines { alloc: _, text } = self;
+        text
+    }
+
     /// Forgets the lines.
     pub fn clear(&mut self)
         ensures { self.new ≡ [] }

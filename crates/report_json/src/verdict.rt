@@ -1,11 +1,13 @@
 //! The verdict on the set of a file.
 
 ghost use Rattle.std.specs.Prelude.{◌≡◌, ◌++◌, ◌∷◌, [], OnOk, codes, decimal};
+ghost use Rattle.json.specs.Json.{Members};
 ghost use Rattle.json.specs.Token.{key, number, string};
-ghost use Rattle.json.specs.Tree.{items_tokens, json_tokens};
+ghost use Rattle.json.specs.Tree.{items_tokens, json_tokens, members_tokens};
 ghost use Rattle.model.specs.Words.{rule_word};
 ghost use Rattle.report.specs.Rule.{rule_name};
-ghost use Rattle.report_json.specs.Verdict.{name_json, routine_json, routines_json};
+ghost use Rattle.report_json.specs.Verdict.{name_json, routine_json, routine_members};
+ghost use Rattle.report_json.specs.Verdict.{routines_json};
 
 use crate::member::{begin, put_number, put_text};
 use crate::to_json::ToJson;
@@ -72,12 +74,21 @@ fn write_routine(out: &mut Writer, routine: &CertifiedRoutine) -> Result<(), All
         (out.new.tokens ≡ out.old.tokens ++ json_tokens (routine_json routine.now)) }
 {
     out.begin_object()?;
+    put_routine(out, routine)?;
+    out.end_object()
+}
+
+/// Adds the members of a routine.
+pub fn put_routine(out: &mut Writer, routine: &CertifiedRoutine) -> Result<(), AllocError>
+    ensures before { out.new.before ≡ out.old.before }
+    ensures tokens { OnOk result ((others : Members) → out.new.tokens ++ members_tokens others
+        ≡ out.old.tokens ++ members_tokens (routine_members routine.now others)) }
+{
     put_number(out, "driver", routine.driver as u64)?;
     put_number(out, "routine", routine.routine as u64)?;
     put_name(out, "name", &routine.name)?;
     put_text(out, "sort", routine.sort.as_str())?;
-    put_number(out, "certificate", routine.certificate as u64)?;
-    out.end_object()
+    put_number(out, "certificate", routine.certificate as u64)
 }
 
 /// Adds a member that is a name which there may be.

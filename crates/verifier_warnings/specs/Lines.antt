@@ -71,8 +71,12 @@ abbrev pub IsOrderLine : Set → ℕ → List ℕ → Type 0
 IsOrderLine set driver line =
     TellsOrder set driver line ⊎ (TellsNoTwo set driver line ⊎ TellsNothing set driver line)
 
--- words end with such a line for each driver of a set, in order, and the end behind them
+-- words are such a line for each driver of a set, in order
+abbrev pub AreOrderWords : Set → List ℕ → Type 0
+AreOrderWords set words = AreLines (IsOrderLine set) (length set.drivers) words
+
+-- words end with those, and the end behind them
 abbrev pub TellsEach : Set → List ℕ → Type 0
 TellsEach set words =
-    (lines end : List ℕ) × AreLines (IsOrderLine set) (length set.drivers) lines
-    × TellsEnd set end × EndsWith words (lines ++ end)
+    (lines end : List ℕ) × AreOrderWords set lines × TellsEnd set end
+    × EndsWith words (lines ++ end)

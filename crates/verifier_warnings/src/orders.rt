@@ -2,7 +2,7 @@
 
 ghost use Rattle.std.specs.Prelude.{◌++◌, IfOk, OnOk, string_bytes};
 ghost use Rattle.model.specs.Typable.{IsTypable};
-ghost use Rattle.verifier_warnings.specs.Lines.{TellsEach};
+ghost use Rattle.verifier_warnings.specs.Lines.{AreOrderWords, TellsEach};
 ghost use Rattle.verifier_warnings.specs.Orders.{EndsRightly, EndsWith, TellsCycle, TellsCycles};
 ghost use Rattle.verifier_warnings.specs.Orders.{TellsOrders, advice};
 
@@ -98,6 +98,25 @@ pub fn acceptance(
     let lines = order_lines(alloc, accepted, &telling, orders.as_slice())?;
     let end = end_words(alloc, &telling, orders.as_slice())?;
     routines_before(alloc, &telling, lines.as_str(), end.as_str())
+}
+
+/// The lock orders of an accepted set, a line for each driver that takes locks: the order of those
+/// that it takes two at once, or that it takes no two so. There is none of a driver that takes its
+/// locks in a cycle.
+///
+/// # Errors
+///
+/// When memory runs out.
+pub fn lock_orders(
+    alloc: Global,
+    origin: Origin<'_>,
+    accepted: &Accepted,
+) -> Result<String, AllocError>
+    ensures { IfOk result (λ words. AreOrderWords accepted.now (string_bytes words)) }
+{
+    let orders = orders_of(alloc, accepted)?;
+    let telling = Telling::of(alloc, origin, accepted.set())?;
+    order_lines(alloc, accepted, &telling, orders.as_slice())
 }
 
 /// The routines of a set, a line each, and other words behind them.

@@ -1,4 +1,7 @@
-use Rattle.std.proofs.Common.{◌≡◌, arith, refl}
+use Rattle.std.proofs.Common.{◌≡◌, Ok, arith, refl}
+use Rattle.answer.proofs.Delivering.{answers_rightly, found}
+use Rattle.drvhost_words.specs.Program.{IsPage, IsTaskFrom}
+use Rattle.drvhost_words.proofs.Tasks.{work_ends}
 use Rattle.drvhost_words.proofs.Ending.{counted_alone, counted_beside, counted_telling, counted_warned}
 use Rattle.drvhost_words.proofs.program.perform.Goals as goal
 
@@ -7,7 +10,10 @@ returns-in-Page-clause-answers g c =
     rw c.in-Page.is
     (counted_beside _ _ _ _ _ _ _ _ _ _ _ _ _
     (counted_alone _ (λ n. n ≡ 0) 0 _ _ _ _ _ _ _ _ _ _ refl (omega arith)
-    (c.write_page.ensures (g.F.Files.failures c.args.files.now))) refl)
+    (answers_rightly (λ told. c.answer_page.result ≡ Ok told) (IsPage c.in-Page.page)
+    (g.F.Files.failures c.args.files.now) _ _ _ _ _ _ _ _ _
+    (c.write_answer.ensures (g.F.Files.failures c.args.files.now))
+    (λ told is. found _ c.answer_page.result told c.answer_page.ensures is) (omega arith))) refl)
 
 pub returns-in-Page-clause-stores : goal.returns-in-Page-clause-stores
 returns-in-Page-clause-stores g c = rw c.in-Page.is (record { supply = refl; none = refl })
@@ -69,14 +75,15 @@ pub returns-in-OnSet-clause-answers : goal.returns-in-OnSet-clause-answers
 returns-in-OnSet-clause-answers g c =
     rw c.in-OnSet.is
     (counted_beside _ _ _ _ _ _ _ _ _ _ _ _ _
-    (counted_telling _ _ (λ n. n ≡ 1) 1 _ _ _ _ _ _ _ _ _ _ _ _ _ refl
-    c.work_file.ensures.opened c.work_file.ensures.answers)
-    c.work_file.ensures.kept.unwritten)
+    (work_ends (IsTaskFrom c.in-OnSet.task) (g.F.Files.supply c.args.files.now)
+    c.in-OnSet.set.now _ _ _ _ _ _ _ _ _ _ _ _ _ c.answer_file.ensures.opened
+    c.answer_file.ensures.answers)
+    c.answer_file.ensures.kept.unwritten)
 
 pub returns-in-OnSet-clause-stores : goal.returns-in-OnSet-clause-stores
 returns-in-OnSet-clause-stores g c =
     rw c.in-OnSet.is
-    (record { supply = c.work_file.ensures.kept.supply; none = c.work_file.ensures.kept.created })
+    (record { supply = c.answer_file.ensures.kept.supply; none = c.answer_file.ensures.kept.created })
 
 pub returns-in-OnRun-clause-answers : goal.returns-in-OnRun-clause-answers
 returns-in-OnRun-clause-answers g c =

@@ -1,14 +1,11 @@
-use Rattle.report_json.proofs.Steps.{more, last}
+use Rattle.std.proofs.lemmas.Result.{on_ok_weaker}
+use Rattle.json.specs.Json.{no_members}
+use Rattle.report_json.proofs.Routines.{object_put}
 use Rattle.report_json.proofs.verdict.write_routine.Goals as goal
 
 pub returns-clause-tokens : goal.returns-clause-tokens
 returns-clause-tokens c =
-    let t = c.args.out.now.tokens in
-    let a = more t _ _ _ _ c.in_ok-begin_object.ensures.ok c.in_ok-put_number.ensures.tokens in
-    let b = more t _ _ _ _ a c.in_ok-put_number-2.ensures.tokens in
-    let named = more t _ _ _ _ b c.in_ok-put_name.ensures.tokens in
-    let u = c.put_name.new.out.tokens in
-    let rest = more u _ _ _ _ c.in_ok-put_text.ensures.tokens c.in_ok-put_number-3.ensures.tokens in
-    let end = last _ u _ _ _ _ rest c.end_object.ensures.ok in
-    let done = last _ t _ _ _ _ named end in
-    rw c.as_str.ensures at done
+    on_ok_weaker c.end_object.result
+    (object_put c.args.routine.now no_members c.args.out.now.tokens _ _ c.end_object.new.self.tokens
+    c.in_ok-begin_object.ensures.ok c.in_ok-put_routine.ensures.tokens)
+    c.end_object.ensures.ok

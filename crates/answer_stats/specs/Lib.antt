@@ -1,0 +1,5 @@
+pub mod Json
+pub mod Nesting
+pub mod Order
+pub mod Sizes
+pub mod Stats
