@@ -14,7 +14,7 @@ def rules():
     words = [word for pair in re.findall(r"^### (V\d+) (\w+)$", text, re.M) for word in pair]
     return words + re.findall(r"^### (LockOrder)$", text, re.M)
 
-FORMATS = {"FORMAT": ["text", "json"], "FIGURE": ["svg", "perfetto"], "FORM": ["text", "tap", "junit"]}
+FORMATS = {"FORMAT": ["text", "json"], "FIGURE": ["svg", "perfetto"], "FORM": ["text", "tap", "tap14", "junit"]}
 
 def values(command, flag):
     """What may stand behind a flag of a command; nothing where it takes no value, or any."""

@@ -157,6 +157,9 @@ CASES = [
     ('explain --rule V20', 0, RULE, ''),
     ('explain --rule V21', 2, '', None),  # some text on how the program is used
     ('explain open', 2, '', UNCLOSED),
+    ('stats image', 0, 'accepted\ndriver 0 routine 0 dispatch certificate 2\n'
+     'drivers 1\ndevices 1\nroutines 1\ninstructions 2\nlocks 0\nimage bytes 40\n', ''),
+    ('stats open', 2, '', 'text fault 6 Unclosed line 2\n'),
     ('list image', 0, LISTED, ''),
     ('list open', 2, '', 'text fault 6 Unclosed line 2\n'),
     ('rewrite set out', 0, '', ''),

@@ -22,7 +22,7 @@ import sarif_standard
 TOP = os.path.dirname(os.path.dirname(os.path.dirname(os.path.abspath(__file__))))
 # The members that a shape may lack: a result on an image, or on an empty file, has no region.
 MAY_LACK = {("log", "region")}
-BLOCK = re.compile(r"<!-- format: (\w+) -->\n```json\n(.*?)```", re.S)
+BLOCK = re.compile(r"<!-- format: (\w+) -->\n```json\n(.*?)\n```", re.S)
 
 
 def validator_of(shape):
@@ -53,7 +53,7 @@ def wrong_ones(value):
             if other is None:
                 del place[key]
             else:
-                place[key] = other
+                place[key] = 0.5 if isinstance(place[key], bool) else other
             yield key, other is None, changed
 
 

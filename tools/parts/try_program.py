@@ -30,6 +30,7 @@ IMAGES = {
 }
 LISTED = b'driver d0\ndispatch READ f0\nroutine f0 dispatch\ncomplete r0 SUCCESS\nret SUCCESS\nendr\nendd\ndevice v0 d0 1\n'
 ACCEPTED = b'accepted\ndriver 0 routine 0 dispatch certificate 2\n'
+MEASURED = b'drivers 1\ndevices 1\nroutines 1\ninstructions 2\nlocks 0\n'
 REFUSED = b'refused V5 DoubleCompletion driver 0 routine 0 at 1\n'
 NAMED = (ACCEPTED + b'driver 0 routine 0: driver d, routine f (dispatch)\n'
          b'No threads ever wait for each other in a ring, and every routine ends.\n')
@@ -147,6 +148,16 @@ CASES = [
     ('explain good.drv --rule V2', 2, b'', SOME),
     ('explain --all', 2, b'', SOME),
     ('explain', 2, b'', SOME),
+    ('stats good.drv', 0, ACCEPTED + MEASURED + b'text bytes %d\n' % len(GOOD), b''),
+    ('stats good.drv --format json', 0, b'{"format":"pafteis.stats/1","file":"good.drv","routines":'
+     b'[{"driver":0,"routine":0,"name":"f","sort":"dispatch","certificate":2,"instructions":2}],'
+     b'"orders":[{"driver":0,"order":[],"cycle":[]}],"sizes":{"drivers":1,"devices":1,"routines":1,'
+     b'"instructions":2,"locks":0,"input":"text","bytes":%d}}\n' % len(GOOD), b''),
+    ('stats twice.drv', 1, REFUSED, b''),
+    ('stats open.drv', 2, b'', b'text fault 6 Unclosed line 2\n'),
+    ('stats nothing.drv', 2, b'', b'cannot read nothing.drv\n'),
+    ('stats good.drv --format sarif', 2, b'', SOME),
+    ('stats', 2, b'', SOME),
     ('list good.drv', 0, LISTED, b''),
     ('list open.drv', 2, b'', b'text fault 6 Unclosed line 2\n'),
     ('list nothing.drv', 2, b'', b'cannot read nothing.drv\n'),
@@ -207,6 +218,7 @@ FED = [
     ('explain -', TWICE, 1, EXPLAINED + HUNT + b'-\n', b''),
     ('check good.drv -', TWICE, 1, b'good.drv: accepted\ngood.drv: driver 0 routine 0 dispatch certificate 2\n'
      b'-: refused V5 DoubleCompletion driver 0 routine 0 at 1\n', b''),
+    ('stats -', IMAGE, 0, ACCEPTED + MEASURED + b'image bytes %d\n' % len(IMAGE), b''),
     ('list -', IMAGE, 0, LISTED, b''),
     ('trace - good.sched', GOOD, 0, TRACED, b''),
     ('trace good.drv -', b'threads 1\nissue 0 0 READ 7\nstep 0 4\n', 0, TRACED, b''),
