@@ -1,9 +1,8 @@
 -- A turn of the loop over the edits of a text, and its end.
 use Rattle.std.proofs.Common.{◌≡◌, ℕ, ◌+◌, ◌<◌, ◌≤◌, List, ◌++◌, append_assoc, ◌∙◌, drop, get_or, length}
 use Rattle.std.proofs.lemmas.List.{drop_all, drop_more}
-use Rattle.mend_edits.specs.Diff.{all_ended}
 use Rattle.mend_edits.specs.declared.lines.LineEdit.{LineEdit}
-use Rattle.mend_edits.specs.Lines.{edited_from, left_by, made_by}
+use Rattle.mend_edits.specs.Lines.{all_ended, edited_from, left_by, made_by}
 
 -- what is made, and what the edits that are left make, is the same behind a turn
 pub edit_on : (xs : List LineEdit) (d : LineEdit) (i next : ℕ) (lines after : List (List ℕ))

@@ -1,10 +1,11 @@
 -- What a unified diff makes of a text. A diff is hunks, one behind another. The head of a hunk
 -- tells which lines of both texts it shows: the number of the first, and how many. Each line of its
 -- body has a sign before it: a space where the line stays, `-` where it is taken out, `+` where it
--- is put in. Lines that no hunk shows stay.
-use Rattle.std.specs.Prelude.{ℕ, zero, suc, ◌+◌, ◌-◌, ◌&&◌, ◌++◌, Bool, false, if◌then◌else◌, List}
-use Rattle.std.specs.Prelude.{[], ◌∷◌, nat_eq, nat_lt, bytes_eq, codes, take, drop, Option, Some}
-use Rattle.std.specs.Prelude.{None}
+-- is put in. A line ends with LF, unless a remark stands behind it, which begins with `\`: then
+-- none ends it. Lines that no hunk shows stay as they are.
+use Rattle.std.specs.Prelude.{ℕ, zero, suc, ◌+◌, ◌-◌, ◌&&◌, ◌++◌, Bool, true, false, List, length}
+use Rattle.std.specs.Prelude.{if◌then◌else◌, [], ◌∷◌, nat_eq, nat_lt, bytes_eq, codes, take, drop}
+use Rattle.std.specs.Prelude.{Option, Some, None}
 use Rattle.std.specs.List.{position}
 use Rattle.text.specs.Cut.{lines_of, tokens_of}
 use Rattle.text.specs.Number.{numbered_in}
@@ -54,11 +55,18 @@ head_in line = head_parted (tokens_of line)
 abbrev pub before : Range → ℕ
 before range = if nat_eq range.count 0 then range.first else range.first - 1
 
--- how far a diff has been followed: the lines of the text that are left, and how many were passed;
--- what was made so far, and of how many lines; and how many lines of both texts its hunk still
--- shows
+-- how many bytes the next line of a text has, its LF among them
+abbrev pub size_to : Option ℕ → List ℕ → ℕ
+size_to None text = length text
+size_to (Some place) text = place + 1
+
+abbrev pub line_size : List ℕ → ℕ
+line_size text = size_to (position (λ b. nat_eq b 10) text) text
+
+-- how far a diff has been followed: what of the text is left, and how many lines were passed; what
+-- was made so far, and of how many lines; and how many lines of both texts its hunk still shows
 pub record Progress : Type 0 where
-  pub left : List (List ℕ)
+  pub left : List ℕ
   pub passed : ℕ
   pub written : List ℕ
   pub made : ℕ
@@ -66,18 +74,20 @@ pub record Progress : Type 0 where
   pub new : ℕ
 
 -- the next line stays, outside of hunks
-abbrev pub kept_of : List (List ℕ) → Progress → Option Progress
-kept_of [] p = None
-kept_of (line ∷ lines) p = Some (record p {
-  left = lines;
-  passed = p.passed + 1;
-  written = p.written ++ ended line;
-  made = p.made + 1;
-})
+abbrev pub kept_of : ℕ → Progress → Option Progress
+kept_of size p =
+    if nat_lt 0 size
+    then Some (record p {
+      left = drop size p.left;
+      passed = p.passed + 1;
+      written = p.written ++ take size p.left;
+      made = p.made + 1;
+    })
+    else None
 
 abbrev pub kept : Option Progress → Option Progress
 kept None = None
-kept (Some p) = kept_of p.left p
+kept (Some p) = kept_of (line_size p.left) p
 
 abbrev pub kept_times : ℕ → Option Progress → Option Progress
 kept_times zero p = p
@@ -95,65 +105,94 @@ abbrev pub opened : Option Head → Progress → Option Progress
 opened None p = None
 opened (Some head) p = begun head (kept_times (before head.old - p.passed) (Some p))
 
--- the next line of the text is this one
-abbrev pub is_next : List ℕ → List (List ℕ) → Bool
-is_next line [] = false
-is_next line (next ∷ lines) = bytes_eq next line
+-- what stands behind these bytes, where a text begins with them
+abbrev pub behind : List ℕ → List ℕ → Option (List ℕ)
+behind bytes text =
+    if bytes_eq (take (length bytes) text) bytes then Some (drop (length bytes) text) else None
+
+-- what stands behind the LF that ends a line; or nothing, where the line is bare: none ends it
+abbrev pub passed_end : Bool → List ℕ → Option (List ℕ)
+passed_end true [] = Some []
+passed_end true (byte ∷ text) = None
+passed_end false [] = None
+passed_end false (byte ∷ text) = if nat_eq byte 10 then Some text else None
+
+abbrev pub end_behind : Bool → Option (List ℕ) → Option (List ℕ)
+end_behind bare None = None
+end_behind bare (Some text) = passed_end bare text
+
+-- what stands behind a line, where it is the next of a text
+abbrev pub line_behind : List ℕ → Bool → List ℕ → Option (List ℕ)
+line_behind line bare text = end_behind bare (behind line text)
 
 -- a line of the text, which the hunk shows
-abbrev pub taken : List ℕ → Progress → Option Progress
-taken line p =
-    if nat_lt 0 p.old && is_next line p.left
-    then Some (record p { left = drop 1 p.left; passed = p.passed + 1; old = p.old - 1 })
-    else None
+abbrev pub taken_to : Option (List ℕ) → Progress → Option Progress
+taken_to None p = None
+taken_to (Some left) p = Some (record p { left = left; passed = p.passed + 1; old = p.old - 1 })
+
+abbrev pub taken : List ℕ → Bool → Progress → Option Progress
+taken line bare p =
+    if nat_lt 0 p.old then taken_to (line_behind line bare p.left) p else None
+
+-- a line with its LF, unless it is bare
+abbrev pub bytes_of : List ℕ → Bool → List ℕ
+bytes_of line true = line
+bytes_of line false = ended line
 
 -- a line that is made, which the hunk shows
-abbrev pub put : List ℕ → Option Progress → Option Progress
-put line None = None
-put line (Some p) =
+abbrev pub put : List ℕ → Bool → Option Progress → Option Progress
+put line bare None = None
+put line bare (Some p) =
     if nat_lt 0 p.new
     then Some (record p {
-      written = p.written ++ ended line;
+      written = p.written ++ bytes_of line bare;
       made = p.made + 1;
       new = p.new - 1;
     })
     else None
 
 -- a line of a hunk, by its sign
-abbrev pub shown : List ℕ → Progress → Option Progress
-shown [] p = None
-shown (sign ∷ line) p =
-    if nat_eq sign 32 then put line (taken line p) else
-    (if nat_eq sign 45 then taken line p else
-    (if nat_eq sign 43 then put line (Some p) else None))
+abbrev pub shown : List ℕ → Bool → Progress → Option Progress
+shown [] bare p = None
+shown (sign ∷ line) bare p =
+    if nat_eq sign 32 then put line bare (taken line bare p) else
+    (if nat_eq sign 45 then taken line bare p else
+    (if nat_eq sign 43 then put line bare (Some p) else None))
 
 -- every line of the hunk was shown, or there is none
 abbrev pub is_between : Progress → Bool
 is_between p = nat_eq p.old 0 && nat_eq p.new 0
 
--- a line of a diff, and lines of it one after another
-abbrev pub line_followed : List ℕ → Option Progress → Option Progress
-line_followed line None = None
-line_followed line (Some p) = if is_between p then opened (head_in line) p else shown line p
+-- a remark, which says that no LF ends the line before it
+abbrev pub is_remark : List ℕ → Bool
+is_remark [] = false
+is_remark (byte ∷ line) = nat_eq byte 92
+
+-- the line before these lines of a diff is bare
+abbrev pub is_bare : List (List ℕ) → Bool
+is_bare [] = false
+is_bare (line ∷ lines) = is_remark line
+
+-- a line of a diff, and lines of it one after another; a remark is passed
+abbrev pub line_followed : List ℕ → Bool → Option Progress → Option Progress
+line_followed line bare None = None
+line_followed line bare (Some p) =
+    if is_remark line then Some p else
+    (if is_between p then opened (head_in line) p else shown line bare p)
 
 abbrev pub followed : List (List ℕ) → Option Progress → Option Progress
 followed [] p = p
-followed (line ∷ lines) p = followed lines (line_followed line p)
+followed (line ∷ lines) p = followed lines (line_followed line (is_bare lines) p)
 
 -- nothing of a text has been passed
-abbrev pub at_start : List (List ℕ) → Progress
-at_start lines = record { left = lines; passed = 0; written = []; made = 0; old = 0; new = 0 }
+abbrev pub at_start : List ℕ → Progress
+at_start text = record { left = text; passed = 0; written = []; made = 0; old = 0; new = 0 }
 
--- lines, each with its LF
-abbrev pub all_ended : List (List ℕ) → List ℕ
-all_ended [] = []
-all_ended (line ∷ lines) = ended line ++ all_ended lines
-
--- at the end of a diff its last hunk is shown whole, and the lines that are left stay
+-- at the end of a diff its last hunk is shown whole, and what is left of the text stays
 abbrev pub finished : Option Progress → Option (List ℕ)
 finished None = None
-finished (Some p) = if is_between p then Some (p.written ++ all_ended p.left) else None
+finished (Some p) = if is_between p then Some (p.written ++ p.left) else None
 
--- what a diff makes of a text, if it fits it; the last line ends with LF too
+-- what a diff makes of a text, if it fits it
 abbrev pub made_by : List ℕ → List ℕ → Option (List ℕ)
-made_by diff text = finished (followed (lines_of diff) (Some (at_start (lines_of text))))
+made_by diff text = finished (followed (lines_of diff) (Some (at_start text)))

@@ -1,8 +1,13 @@
 -- Edits of whole lines of a text, and what they make of it.
 use Rattle.std.specs.Prelude.{ℕ, ◌-◌, ◌++◌, List, [], ◌∷◌, drop, string_bytes, take}
 use Rattle.text.specs.Cut.{lines_of}
-use Rattle.mend_edits.specs.Diff.{all_ended}
+use Rattle.mend_edits.specs.Patch.{ended}
 use Rattle.mend_edits.specs.declared.lines.LineEdit.{LineEdit}
+
+-- lines, each with its LF
+abbrev pub all_ended : List (List ℕ) → List ℕ
+all_ended [] = []
+all_ended (line ∷ lines) = ended line ++ all_ended lines
 
 -- lines that are left, the first of which has this number: those before an edit stay, and its own
 -- ones are replaced

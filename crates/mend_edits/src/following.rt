@@ -1,12 +1,13 @@
 //! What a unified diff makes of a text.
 
-ghost use Rattle.std.specs.Prelude.{◌≡◌, ◌+◌, ◌++◌, IfOk, IfSome, OnOk, Some};
-ghost use Rattle.text.specs.Cut.{lines_of};
-ghost use Rattle.mend_edits.specs.Diff.{all_ended, at_start, finished, followed, is_between, kept};
-ghost use Rattle.mend_edits.specs.Diff.{kept_times, line_followed, made_by, opened, put, shown};
+ghost use Rattle.std.specs.Prelude.{◌≡◌, ◌+◌, ◌++◌, IfOk, IfSome, OnOk, Some, drop};
+ghost use Rattle.mend_edits.specs.Diff.{at_start, behind, bytes_of, finished, is_bare};
+ghost use Rattle.mend_edits.specs.Diff.{is_between, is_remark, kept, kept_times, line_behind};
+ghost use Rattle.mend_edits.specs.Diff.{line_followed, made_by, opened, passed_end, put, shown};
 ghost use Rattle.mend_edits.specs.Diff.{taken};
 
 use crate::head::{Head, head_in};
+use crate::line::line_size;
 use crate::patching::write_line;
 use model::items::Items;
 use std::alloc::{AllocError, Global};
@@ -33,7 +34,8 @@ impl From<AllocError> for Broken {
 }
 
 /// What a unified diff makes of a text: the bytes behind its `---` and `+++` lines, where they are
-/// a diff of this text. Each line ends with LF, the last one too.
+/// a diff of this text. Where no LF ends the text, none ends its last line, unless the diff puts it
+/// in anew with one.
 ///
 /// # Errors
 ///
@@ -54,16 +56,41 @@ fn follow(alloc: Global, diff: &[u8], text: &[u8]) -> Result<Items<u8>, Broken>
 {
     let mut progress = Progress::at_start(alloc, text);
     let mut left = Lines::of(diff);
+    let mut later = Lines::of(diff);
+    let _first = later.next();
     while let Some(line) = left.next() {
-        progress.follow_line(line)?;
+        let bare = take_remark(&mut later);
+        progress.follow_line(line, bare)?;
     }
     progress.finish()
+}
+
+/// Takes the next line, if there is one: whether it is a remark, which says that no LF ends the
+/// line before it.
+fn take_remark(lines: &mut Lines<'_>) -> bool
+    ensures remark { result ≡ is_bare lines.old }
+    ensures left { lines.new ≡ drop 1 lines.old }
+{
+    match lines.next() {
+        Some(line) => is_remark(line),
+        None => false,
+    }
+}
+
+/// Whether a line of a diff is a remark.
+fn is_remark(line: &[u8]) -> bool
+    ensures { result ≡ is_remark line.now }
+{
+    match line.first() {
+        Some(byte) => *byte == b'\\',
+        None => false,
+    }
 }
 
 /// How far a diff has been followed.
 #[derive(Drop)]
 struct Progress<'a> {
-    left: Lines<'a>,
+    left: &'a [u8],
     passed: u64,
     written: Vec<u8>,
     made: u64,
@@ -77,7 +104,7 @@ impl<'a> Model for Progress<'a> {
     ghost Value = { told.Progress };
 
     ghost view = { λ p. record {
-      left = p.left;
+      left = p.left.now;
       passed = p.passed;
       written = p.written.items;
       made = p.made;
@@ -89,10 +116,10 @@ impl<'a> Model for Progress<'a> {
 impl<'a> Progress<'a> {
     /// Nothing of the text has been passed.
     fn at_start(alloc: Global, text: &'a [u8]) -> Progress<'a>
-        ensures { result ≡ at_start (lines_of text.now) }
+        ensures { result ≡ at_start text.now }
     {
         Progress {
-            left: Lines::of(text),
+            left: text,
             passed: 0,
             written: Vec::new(alloc),
             made: 0,
@@ -101,12 +128,15 @@ impl<'a> Progress<'a> {
         }
     }
 
-    /// Follows a line of the diff.
-    fn follow_line(&mut self, line: &[u8]) -> Result<(), Broken>
-        ensures { OnOk result (line_followed line.now (Some self.old) ≡ Some self.new) }
+    /// Follows a line of the diff, bare where a remark stands behind it; a remark is passed.
+    fn follow_line(&mut self, line: &[u8], bare: bool) -> Result<(), Broken>
+        ensures { OnOk result (line_followed line.now bare (Some self.old) ≡ Some self.new) }
     {
+        if is_remark(line) {
+            return Ok(());
+        }
         if !self.is_between() {
-            return self.show(line);
+            return self.show(line, bare);
         }
         match head_in(line) {
             Some(head) => self.open(head),
@@ -151,39 +181,43 @@ impl<'a> Progress<'a> {
     fn keep_one(&mut self) -> Result<(), Broken>
         ensures { OnOk result (kept (Some self.old) ≡ Some self.new) }
     {
-        let Some(line) = self.left.next() else {
+        let size = line_size(self.left);
+        if size == 0 {
             return Err(Broken::Misfit);
-        };
+        }
+        let (line, left) = self.left.split_at(size);
+        self.left = left;
         self.passed = one_more(self.passed)?;
-        write_line(&mut self.written, line)?;
+        self.written.extend_from_slice(line)?;
         self.made = one_more(self.made)?;
         Ok(())
     }
 
     /// Follows a line of a hunk.
-    fn show(&mut self, line: &[u8]) -> Result<(), Broken>
-        ensures { OnOk result (shown line.now self.old ≡ Some self.new) }
+    fn show(&mut self, line: &[u8], bare: bool) -> Result<(), Broken>
+        ensures { OnOk result (shown line.now bare self.old ≡ Some self.new) }
     {
         let Some((sign, line)) = line.split_first() else {
             return Err(Broken::Misfit);
         };
         match *sign {
             b' ' => {
-                self.take(line)?;
-                self.put(line)
+                self.take(line, bare)?;
+                self.put(line, bare)
             }
-            b'-' => self.take(line),
-            b'+' => self.put(line),
+            b'-' => self.take(line, bare),
+            b'+' => self.put(line, bare),
             _ => Err(Broken::Misfit),
         }
     }
 
     /// Passes a line of the text that the hunk shows.
-    fn take(&mut self, line: &[u8]) -> Result<(), Broken>
-        ensures { OnOk result (taken line.now self.old ≡ Some self.new) }
+    fn take(&mut self, line: &[u8], bare: bool) -> Result<(), Broken>
+        ensures { OnOk result (taken line.now bare self.old ≡ Some self.new) }
     {
-        match self.left.next() {
-            Some(next) if self.to_take > 0 && next == line => {
+        match line_behind(line, bare, self.left) {
+            Some(left) if self.to_take > 0 => {
+                self.left = left;
                 self.passed = one_more(self.passed)?;
                 self.to_take -= 1;
                 Ok(())
@@ -193,19 +227,19 @@ impl<'a> Progress<'a> {
     }
 
     /// Makes a line that the hunk shows.
-    fn put(&mut self, line: &[u8]) -> Result<(), Broken>
-        ensures { OnOk result (put line.now (Some self.old) ≡ Some self.new) }
+    fn put(&mut self, line: &[u8], bare: bool) -> Result<(), Broken>
+        ensures { OnOk result (put line.now bare (Some self.old) ≡ Some self.new) }
     {
         if self.to_put == 0 {
             return Err(Broken::Misfit);
         }
-        write_line(&mut self.written, line)?;
+        write_shown(&mut self.written, line, bare)?;
         self.made = one_more(self.made)?;
         self.to_put -= 1;
         Ok(())
     }
 
-    /// What was made, with the lines that are left.
+    /// What was made, with what is left of the text.
     fn finish(self) -> Result<Items<u8>, Broken>
         ensures { IfOk result (λ bytes. finished (Some self.entry) ≡ Some bytes) }
     {
@@ -213,22 +247,48 @@ impl<'a> Progress<'a> {
             return Err(Broken::Misfit);
         }
         let Progress {
-            mut left,
+            left,
             mut written,
             ..
         } = self;
-        add_all(&mut written, &mut left)?;
+        written.extend_from_slice(left)?;
         Ok(Items::of(written))
     }
 }
 
-/// Adds lines, each with its LF.
-fn add_all(bytes: &mut Vec<u8>, lines: &mut Lines<'_>) -> Result<(), AllocError>
-    ensures { OnOk result (bytes.new.items ≡ bytes.old.items ++ all_ended lines.old) }
+/// What stands behind a line, where it is the next of a text; of a bare one nothing.
+fn line_behind<'a>(line: &[u8], bare: bool, text: &'a [u8]) -> Option<&'a [u8]>
+    ensures { IfSome result (λ left. line_behind line.now bare text.now ≡ Some left.now) }
 {
-    while let Some(line) = lines.next() {
-        write_line(bytes, line)?;
+    end_behind(bare, behind(line, text)?)
+}
+
+/// What stands behind these bytes, where a text begins with them.
+fn behind<'a>(bytes: &[u8], text: &'a [u8]) -> Option<&'a [u8]>
+    ensures { IfSome result (λ left. behind bytes.now text.now ≡ Some left.now) }
+{
+    text.strip_prefix(bytes)
+}
+
+/// What stands behind the LF that ends a line; of a bare one nothing, where it ends the text.
+fn end_behind(bare: bool, text: &[u8]) -> Option<&[u8]>
+    ensures { IfSome result (λ left. passed_end bare text.now ≡ Some left.now) }
+{
+    match text.split_first() {
+        Some((byte, left)) if !bare && *byte == b'\n' => Some(left),
+        None if bare => Some(text),
+        _ => None,
     }
+}
+
+/// Adds a line with its LF, unless it is bare.
+fn write_shown(bytes: &mut Vec<u8>, line: &[u8], bare: bool) -> Result<(), AllocError>
+    ensures { OnOk result (bytes.new.items ≡ bytes.old.items ++ bytes_of line.now bare) }
+{
+    if !bare {
+        return write_line(bytes, line);
+    }
+    bytes.extend_from_slice(line)?;
     Ok(())
 }
 

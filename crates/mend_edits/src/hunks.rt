@@ -1,8 +1,8 @@
 //! The difference of two texts, as `diff -u` writes it.
 
+use crate::line::line_size;
 use crate::step::Step;
 use text::add_bytes;
-use text::cut::Lines;
 use words::Words;
 
 /// How many lines that stay are shown round those that don't.
@@ -35,9 +35,10 @@ impl Counts {
     }
 }
 
-/// Adds the difference of a text and what the steps make of it, as hunks of a unified diff.
+/// Adds the difference of a text and what the steps make of it, as hunks of a unified diff. Where
+/// no LF ends the text, none ends its last line, unless that is followed by others or taken out.
 pub fn diff(words: &mut Words, text: &[u8], steps: &[Step]) {
-    let mut left = Lines::of(text);
+    let mut left = text;
     let mut passed = Counts { old: 0, new: 0 };
     let mut shown = false;
     for (place, step) in steps.iter().enumerate() {
@@ -45,7 +46,11 @@ pub fn diff(words: &mut Words, text: &[u8], steps: &[Step]) {
         if here && !shown {
             add_head(words, passed, shown_from(steps, place));
         }
-        add_step(words, step, &mut left, here);
+        let (line, later) = cut(step, left);
+        if here {
+            add_step(words, step, line, place + 1 < steps.len())
+        }
+        left = later;
         passed = passed.and(step);
         shown = here;
     }
@@ -94,23 +99,36 @@ fn add_range(words: &mut Words, passed: usize, count: usize) {
     words.add_number(count as u64)
 }
 
-/// Takes the line of a step, and adds it, where it is shown, behind the sign of the step.
-fn add_step(words: &mut Words, step: &Step, left: &mut Lines<'_>, shown: bool) {
-    let line = match step {
-        Step::Insert(line) => Some(line.as_slice()),
-        _ => left.next(),
-    };
-    if let (Some(line), true) = (line, shown) {
-        add_line(words, sign_of(step), line)
+/// The line of a step, and what it leaves of a text. A line that is put in has no LF yet.
+fn cut<'a>(step: &'a Step, text: &'a [u8]) -> (&'a [u8], &'a [u8]) {
+    match step {
+        Step::Insert(line) => (line.as_slice(), text),
+        Step::Keep | Step::Delete => text.split_at(line_size(text)),
     }
 }
 
-/// The sign of a step in a diff.
-fn sign_of(step: &Step) -> &'static str {
+/// Adds the line of a step behind its sign. A last line that no LF ends is taken out and put in
+/// with one where it stays and others follow.
+fn add_step(words: &mut Words, step: &Step, line: &[u8], others_follow: bool) {
     match step {
-        Step::Keep => " ",
-        Step::Delete => "-",
-        Step::Insert(_) => "+",
+        Step::Insert(_) => add_line(words, "+", line),
+        Step::Delete => add_old(words, "-", line),
+        Step::Keep if others_follow && !line.ends_with(b"\n") => {
+            add_old(words, "-", line);
+            add_line(words, "+", line)
+        }
+        Step::Keep => add_old(words, " ", line),
+    }
+}
+
+/// Adds a line of the text behind a sign, and a remark behind one that no LF ends.
+fn add_old(words: &mut Words, sign: &str, line: &[u8]) {
+    match line.strip_suffix(b"\n".as_slice()) {
+        Some(line) => add_line(words, sign, line),
+        None => {
+            add_line(words, sign, line);
+            words.add("\\ No newline at end of file\n")
+        }
     }
 }
 

@@ -7,6 +7,7 @@ mod change;
 mod following;
 mod head;
 mod hunks;
+mod line;
 mod lines;
 mod patching;
 mod step;

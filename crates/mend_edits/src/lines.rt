@@ -1,9 +1,8 @@
 //! Edits of whole lines of a text, by their numbers, and what they make of it.
 
 ghost use Rattle.std.specs.Prelude.{◌≡◌, ◌++◌, IfOk, OnOk, drop, take};
-ghost use Rattle.mend_edits.specs.Diff.{all_ended};
 ghost use Rattle.mend_edits.specs.Patch.{ended};
-ghost use Rattle.mend_edits.specs.Lines.{edited, left_by, made_by};
+ghost use Rattle.mend_edits.specs.Lines.{all_ended, edited, left_by, made_by};
 
 use crate::Change;
 use model::items::Items;

@@ -1,5 +1,5 @@
 use Rattle.std.proofs.Common.{◌≡◌, ◌++◌, drop, take}
-use Rattle.mend_edits.specs.Diff.{all_ended}
+use Rattle.mend_edits.specs.Lines.{all_ended}
 use Rattle.mend_edits.proofs.lines.keep.Given as goal
 
 -- so many lines more make the whole, and leave what is to be left

@@ -1,5 +1,5 @@
 use Rattle.std.proofs.Common.{◌≡◌, ◌++◌, length}
-use Rattle.mend_edits.specs.Diff.{all_ended}
+use Rattle.mend_edits.specs.Lines.{all_ended}
 use Rattle.mend_edits.proofs.lines.keep_all.Given as goal
 
 -- what is made and the lines that are left make the whole
