@@ -3,3 +3,9 @@ pub mod Explained
 pub mod Wording
 pub mod Images
 pub mod Breaks
+pub mod Placing
+pub mod EachFault
+pub mod Evidenced
+pub mod InJson
+pub mod OfJson
+pub mod Read

@@ -12,6 +12,7 @@ use Rattle.model.specs.Typable.{IsFirstFault, IsTypable}
 use Rattle.report.specs.Verdict.{refusal_line}
 use Rattle.drvhost_devices.specs.declared.extent.Extent.{Extent}
 use Rattle.drvhost_devices.specs.declared.extent.Extent.TheVariants.{First, Each}
+use Rattle.answer_explain.specs.Quoting.{word_of}
 
 -- words on one refusal: they end with a line feed, and have nowhere two in a row
 abbrev pub IsBlock : List ℕ → Type 0
@@ -79,7 +80,7 @@ IsExplainedOf extent supply answer =
 
 -- the command that looks for a run which shows what is wrong with the set of the file of a name
 abbrev pub hunt_line : List ℕ → List ℕ
-hunt_line name = codes "show it: drvhost hunt " ++ (name ++ codes "\n")
+hunt_line name = codes "show it: drvhost hunt " ++ (word_of name ++ codes "\n")
 
 -- an answer with that command behind it where its exit status says that the set is refused
 abbrev pub IsShown : List ℕ → Answer → Answer → Type 0

@@ -1,3 +1,9 @@
-pub mod Devices
 pub mod Explained
 pub mod Laws
+pub mod Regions
+pub mod Faults
+pub mod Shown
+pub mod Explanation
+pub mod Nesting
+pub mod Explain
+pub mod Quoting

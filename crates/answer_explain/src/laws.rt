@@ -2,6 +2,7 @@
 
 ghost use Rattle.answer_explain.specs.Laws.{CheckIsOne, ListIsOne, RewriteIsOne, RewritingIsStable};
 ghost use Rattle.answer_explain.specs.Laws.{TraceIsOne};
+ghost use Rattle.answer_explain.specs.Quoting.{WordsAreRead};
 
 use image::laws::{bytes_spell_one, fault_is_one, images_are_faultless};
 use verifier::laws::first_fault_is_one;
@@ -27,3 +28,9 @@ pub fn rewriting_is_stable()
     bytes_spell_one();
     images_are_faultless();
 }
+
+/// A shell reads the word by which a command names a file as its name, behind the folder where the
+/// command runs if that would be an option.
+pub fn words_are_read()
+    ensures { WordsAreRead }
+{}

@@ -2,11 +2,10 @@
 
 ghost use Rattle.std.specs.Prelude.{◌≡◌, ◌+◌, ◌⊎◌, [], IfOk};
 ghost use Rattle.drvhost_devices.specs.Device.{Bytes, CanCount};
-ghost use Rattle.drvhost_devices.specs.Ends.{IsRewriteOf, TakesImage};
+ghost use Rattle.drvhost_devices.specs.Ends.{AnswersOver, IsRewriteOf, TakesImage};
 ghost use Rattle.drvhost_devices.specs.Fault.{Goes, ReadsImage, reads_failed, status_of};
 ghost use Rattle.drvhost_devices.specs.Fault.{writes_failed};
 ghost use Rattle.drvhost_devices.specs.Ready.{CanAnswer};
-ghost use Rattle.answer_explain.specs.Devices.{AnswersOver};
 
 use answer::as_text::{Text, ended};
 use answer::content::Given;

@@ -4,6 +4,7 @@ ghost use Rattle.std.specs.Prelude.{◌≡◌, IfOk};
 ghost use Rattle.answer_explain.specs.Explained.{hunt_line};
 
 use crate::joining::with_words;
+use crate::quoting::add_word;
 use answer::content::Named;
 use answer::job::Job;
 use drvhost_devices::told::Told;
@@ -40,7 +41,7 @@ fn hunt_line(alloc: Global, name: &str) -> Result<Vec<u8>, AllocError>
 {
     let mut line = Vec::new(alloc);
     line.extend_from_slice(HUNT.as_bytes())?;
-    line.extend_from_slice(name.as_bytes())?;
+    add_word(&mut line, name.as_bytes())?;
     line.push(b'\n')?;
     Ok(line)
 }

@@ -9,10 +9,10 @@ use Rattle.model.specs.Set.{Set}
 use Rattle.report_sarif.specs.declared.log.Finding.{Finding}
 use Rattle.verifier_words.specs.declared.telling.Told.{Told}
 use Rattle.verifier_words.specs.Faults.{AreFaults, refusals}
-use Rattle.drvhost_evidence.specs.declared.shown.Shown.{Shown}
-use Rattle.drvhost_evidence.specs.Regions.{text_end}
-use Rattle.drvhost_evidence.specs.Shown.{IsShown}
-use Rattle.drvhost_evidence.proofs.EachFault.{past_told, told_at, within_told}
+use Rattle.answer_explain.specs.declared.shown.Shown.{Shown}
+use Rattle.answer_explain.specs.Regions.{text_end}
+use Rattle.answer_explain.specs.Shown.{IsShown}
+use Rattle.answer_explain.proofs.EachFault.{past_told, told_at, within_told}
 use Rattle.answer_mends.specs.Fix.{IsFix}
 use Rattle.drvhost_devices.specs.declared.extent.Extent.{Extent}
 use Rattle.drvhost_devices.specs.declared.extent.Extent.TheVariants.{First, Each}

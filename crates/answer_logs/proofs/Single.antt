@@ -12,7 +12,7 @@ use Rattle.drvhost_devices.specs.declared.logging.Account.TheVariants.{Verdict, 
 use Rattle.drvhost_devices.specs.declared.logging.Passes.{Passes}
 use Rattle.drvhost_devices.specs.declared.logging.Passes.TheVariants.{Listed}
 use Rattle.report.specs.Fault.{text_kind_name}
-use Rattle.drvhost_evidence.specs.Regions.{fault_region}
+use Rattle.answer_explain.specs.Regions.{fault_region}
 use Rattle.answer_logs.specs.declared.found.Found.{Found}
 use Rattle.answer_logs.specs.Found.{AreExplained, AreTold, IsFault, IsFaultFound, IsPass, IsPassed, IsRefusalFound, IsSaid, IsTextFaultFound}
 

@@ -18,8 +18,8 @@ use Rattle.verifier_evidence.specs.Evidence.{IsEvidence}
 use Rattle.verifier_words.specs.Faults.{AreFaults}
 use Rattle.drvhost_devices.specs.Answer.{FileSays}
 use Rattle.drvhost_devices.specs.Device.{Holds, Supply}
-use Rattle.drvhost_evidence.specs.Regions.{fault_region, refusal_region, text_end}
-use Rattle.drvhost_evidence.specs.Shown.{AreStepsOf, other_path, path_of, refused_lines}
+use Rattle.answer_explain.specs.Regions.{fault_region, refusal_region, text_end}
+use Rattle.answer_explain.specs.Shown.{AreStepsOf, other_path, path_of, refused_lines}
 use Rattle.answer_mends.specs.Fix.{IsFix}
 use Rattle.drvhost_devices.specs.declared.extent.Extent.{Extent}
 use Rattle.drvhost_devices.specs.declared.extent.Extent.TheVariants.{First, Each}

@@ -12,14 +12,14 @@ use Rattle.model.specs.declared.abs.Refusal.{Refusal}
 use Rattle.model.specs.Set.{Set}
 use Rattle.model.specs.Typable.{IsFirstFault}
 use Rattle.report.specs.Verdict.{refusal_line}
-use Rattle.answer_mends.specs.declared.apply.Asked.{Asked}
+use Rattle.answer_mends.specs.declared.apply.ApplyOptions.{ApplyOptions}
 use Rattle.answer_mends.specs.declared.apply.Applied.{Applied}
 use Rattle.answer_mends.specs.declared.judged_offers.Offer.{Offer}
 use Rattle.answer_mends.specs.Apply.{IsAppliedTo, IsApply, IsApplyOf, IsApplyWith, LeavesFor, Shows, Takes, TakesMade, applied_of, end_with, last_line, wanted_of, written_of}
 use Rattle.answer_mends.specs.Mend.{AreOffers, told}
 
 -- what is told of a refused set, of whose offers one is applied, or none
-pub applied_told : (asked : Asked) (image : Bool) (text : List ℕ) (set : Set) (refusal : Refusal)
+pub applied_told : (asked : ApplyOptions) (image : Bool) (text : List ℕ) (set : Set) (refusal : Refusal)
     (offers : List Offer) (applied : Option Applied) (end : End) (answer output : List ℕ)
     → IsFirstFault set refusal → AreOffers refusal text offers
     → applied_of image (wanted_of asked.wanted offers) ≡ applied → end ≡ end_with applied
@@ -45,7 +45,7 @@ applied_told asked image text set refusal offers applied end answer output first
     }
 
 -- what is right for the bytes that a source has is right for the source
-pub source_right : (asked : Asked) (held : Supply) (bytes : List ℕ) (set : Set)
+pub source_right : (asked : ApplyOptions) (held : Supply) (bytes : List ℕ) (set : Set)
     (made : Option (List ℕ)) (answer : Answer) → Holds held bytes → ReadsSet (Bytes bytes) (Ok set)
     → IsApply asked bytes made set answer → IsApplyWith asked held made answer
 source_right asked held bytes set None answer holds (other, same, says) right =
@@ -56,7 +56,7 @@ source_right asked held bytes set (Some made) answer holds (other, same, says) r
     (bytes, holds, (set, subst P same says, right))
 
 -- and where its bytes name no set
-pub source_unread : (asked : Asked) (held : Supply) (bytes : List ℕ) (b : Option (List ℕ))
+pub source_unread : (asked : ApplyOptions) (held : Supply) (bytes : List ℕ) (b : Option (List ℕ))
     (fault : Fault) → Holds held bytes → ReadsSet (Bytes bytes) (Err fault)
     → Goes (IsApplyOf asked held) b b [] [] (Err fault)
 source_unread asked held bytes b fault holds unread =
@@ -68,7 +68,7 @@ source_unread asked held bytes b fault holds unread =
     (set_unread (IsApply asked bytes None) (Bytes bytes) b [] [] fault unread)
 
 -- a fault leaves the file
-pub fault_leaves : (asked : Asked) (held : Supply) (b n : Option (List ℕ)) (fault : Fault)
+pub fault_leaves : (asked : ApplyOptions) (held : Supply) (b n : Option (List ℕ)) (fault : Fault)
     → LeavesFor asked held b n (fault_status fault)
 fault_leaves asked held b n Read = inl refl
 fault_leaves asked held b n Write = inl refl
@@ -78,7 +78,7 @@ fault_leaves asked held b n (Image fault) = inl refl
 fault_leaves asked held b n (OfSchedule fault) = inl refl
 fault_leaves asked held b n (OfScript fault) = inl refl
 
-module _ (asked : Asked) (held : Supply) (b n : Option (List ℕ)) (end : End) (output : List ℕ)
+module _ (asked : ApplyOptions) (held : Supply) (b n : Option (List ℕ)) (end : End) (output : List ℕ)
     (made : Option (List ℕ)) (right : IsApplyWith asked held made (ended end output)) where
   -- how the job goes by what was shown
   pub goes_shown : (result : Result End Fault) → Shows end output b n result
@@ -95,7 +95,7 @@ module _ (asked : Asked) (held : Supply) (b n : Option (List ℕ)) (end : End) (
       subst P (sym is) (ended end output, (made, right), begins)
 
 -- and what the file has then
-pub file_touched : (asked : Asked) (held : Supply) (Same : Type 0) (b n c m : Option (List ℕ))
+pub file_touched : (asked : ApplyOptions) (held : Supply) (Same : Type 0) (b n c m : Option (List ℕ))
     (end : End) (output : List ℕ) (made : Option (List ℕ)) (result : Result End Fault)
     → IsApplyWith asked held made (ended end output) → Shows end output b n result
     → Takes Same b n c m output made result

@@ -19,7 +19,7 @@ use Rattle.answer_mends.specs.declared.judging.Extent.{Extent}
 use Rattle.answer_mends.specs.declared.judging.Extent.TheVariants.{Whole, Part}
 use Rattle.answer_mends.specs.declared.judged_offers.Offer.{Offer}
 use Rattle.answer_mends.specs.declared.apply.Applied.{Applied}
-use Rattle.answer_mends.specs.declared.apply.Asked.{Asked}
+use Rattle.answer_mends.specs.declared.apply.ApplyOptions.{ApplyOptions}
 use Rattle.answer_mends.specs.Mend.{AreOffers, end_of, is_sure, is_whole, nothing_told, text_of, told}
 
 -- what is told behind the offers: which one is applied, and of a part why the set that it makes is
@@ -85,7 +85,7 @@ end_with (Some applied) = end_of (is_whole applied.extent)
 
 -- an answer on a refused text, or on the listing of an image: its first fault, the offers, and
 -- which of them is applied. None is only where none is wanted, or of an image
-pub record IsAppliedTo (asked : Asked) (image : Bool) (text : List ℕ) (set : Set)
+pub record IsAppliedTo (asked : ApplyOptions) (image : Bool) (text : List ℕ) (set : Set)
     (written : Option (List ℕ)) (answer : Answer) : Type 0 where
   pub refusal : Refusal
   pub first : IsFirstFault set refusal
@@ -97,25 +97,25 @@ pub record IsAppliedTo (asked : Asked) (image : Bool) (text : List ℕ) (set : S
       ++ (told asked.tries offers ++ last_line image (applied_of image (wanted_of asked.wanted offers))))
 
 -- what is right for a set that the bytes of a file name, where such a text is written, or none
-abbrev pub IsApply : Asked → List ℕ → Option (List ℕ) → Set → Answer → Type 0
+abbrev pub IsApply : ApplyOptions → List ℕ → Option (List ℕ) → Set → Answer → Type 0
 IsApply asked bytes written set answer =
     (IsTypable set × (written ≡ None) × (answer ≡ ended Complete nothing_told))
     ⊎ IsAppliedTo asked (is_image bytes) (text_of (is_image bytes) bytes set) set written answer
 
 -- what is right for what its source has: where a text is written, it has a set
-abbrev pub IsApplyWith : Asked → Supply → Option (List ℕ) → Answer → Type 0
+abbrev pub IsApplyWith : ApplyOptions → Supply → Option (List ℕ) → Answer → Type 0
 IsApplyWith asked supply None answer =
     (bytes : List ℕ) × Holds supply bytes × IsOfFile (IsApply asked bytes None) bytes answer
 IsApplyWith asked supply (Some made) answer =
     (bytes : List ℕ) × Holds supply bytes
     × ((set : Set) × FileSays bytes (Ok set) × IsApply asked bytes (Some made) set answer)
 
-abbrev pub IsApplyOf : Asked → Supply → Answer → Type 0
+abbrev pub IsApplyOf : ApplyOptions → Supply → Answer → Type 0
 IsApplyOf asked supply answer =
     (written : Option (List ℕ)) × IsApplyWith asked supply written answer
 
 -- a file was left as it was: by a fault, or since no text is written for what was shown
-abbrev pub LeavesFor : Asked → Supply → Option (List ℕ) → Option (List ℕ) → ℕ → Type 0
+abbrev pub LeavesFor : ApplyOptions → Supply → Option (List ℕ) → Option (List ℕ) → ℕ → Type 0
 LeavesFor asked supply shown_before shown_after status =
     (status ≡ 2) ⊎ (status ≡ 3)
     ⊎ ((answer : Answer) × IsApplyWith asked supply None answer × (status ≡ answer.status)
@@ -123,7 +123,7 @@ LeavesFor asked supply shown_before shown_after status =
 
 -- or it has taken the text that the diff of an offer makes which was shown before, or a beginning
 -- of it where a write failed
-pub record TakesMade (asked : Asked) (supply : Supply)
+pub record TakesMade (asked : ApplyOptions) (supply : Supply)
     (shown_before shown_after before after : Option (List ℕ)) (status : ℕ) : Type 0 where
   pub answer : Answer
   pub made : List ℕ

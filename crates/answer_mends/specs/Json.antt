@@ -5,7 +5,7 @@ use Rattle.answer.specs.Told.{IsToldOf, ended_line}
 use Rattle.answer_mends.specs.declared.judged_offers.Offer.{Offer}
 use Rattle.answer_mends.specs.declared.judging.Extent.{Extent}
 use Rattle.answer_mends.specs.declared.judging.Extent.TheVariants.{Whole, Part}
-use Rattle.answer_mends.specs.declared.mend.Asked.{Asked}
+use Rattle.answer_mends.specs.declared.mend.MendOptions.{MendOptions}
 use Rattle.answer_mends.specs.Mend.{AreOffers, any_whole, end_of, is_sure, text_of}
 use Rattle.drvhost_devices.specs.Answer.{Answer, is_image}
 use Rattle.drvhost_devices.specs.declared.fault.End.TheVariants.{Complete}
@@ -79,7 +79,7 @@ mends_json file tries refusal offers =
     (member (codes "offers") (array (offers_json offers))
     no_members)))
 
-pub record IsMendedJson (asked : Asked) (file text : List ℕ) (set : Set) (answer : Answer) : Type 0
+pub record IsMendedJson (asked : MendOptions) (file text : List ℕ) (set : Set) (answer : Answer) : Type 0
   where
     pub refusal : Refusal
     pub first : IsFirstFault set refusal
@@ -88,11 +88,11 @@ pub record IsMendedJson (asked : Asked) (file text : List ℕ) (set : Set) (answ
     pub is : answer ≡ ended_line (end_of (any_whole offers)) (mends_json file asked.tries refusal offers)
 
 -- what is right in JSON for a set that the bytes of the file of a name are
-abbrev pub IsMendJson : Asked → List ℕ → List ℕ → Set → Answer → Type 0
+abbrev pub IsMendJson : MendOptions → List ℕ → List ℕ → Set → Answer → Type 0
 IsMendJson asked name bytes set answer =
     (IsTypable set × (answer ≡ ended_line Complete (nothing_json name asked.tries)))
     ⊎ IsMendedJson asked name (text_of (is_image bytes) bytes set) set answer
 
 -- what `mend` answers in JSON for what the source has that is the file of a name
-abbrev pub IsMendJsonOf : Asked → List ℕ → Supply → Answer → Type 0
+abbrev pub IsMendJsonOf : MendOptions → List ℕ → Supply → Answer → Type 0
 IsMendJsonOf asked name supply answer = IsToldOf (IsMendJson asked name) name supply answer

@@ -15,7 +15,7 @@ use Rattle.text.specs.Cut.{lines_of}
 use Rattle.answer_mends.specs.declared.judged_offers.Offer.{Offer}
 use Rattle.answer_mends.specs.declared.judging.Extent.{Extent}
 use Rattle.answer_mends.specs.declared.judging.Extent.TheVariants.{Whole, Part}
-use Rattle.answer_mends.specs.declared.mend.Asked.{Asked}
+use Rattle.answer_mends.specs.declared.mend.MendOptions.{MendOptions}
 
 -- the text that is mended: the file's own, or of an image the listing of its set
 abbrev pub text_of : Bool → List ℕ → Set → List ℕ
@@ -108,7 +108,7 @@ end_of true = Complete
 end_of false = Stopped
 
 -- a refused set: its first fault, and what mends it
-pub record IsMended (asked : Asked) (text : List ℕ) (set : Set) (answer : Answer) : Type 0 where
+pub record IsMended (asked : MendOptions) (text : List ℕ) (set : Set) (answer : Answer) : Type 0 where
   pub refusal : Refusal
   pub first : IsFirstFault set refusal
   pub offers : List Offer
@@ -120,12 +120,12 @@ abbrev pub nothing_told : List ℕ
 nothing_told = codes "accepted: nothing to mend\n"
 
 -- what is right for a set that the bytes of a file name
-abbrev pub IsMend : Asked → List ℕ → Set → Answer → Type 0
+abbrev pub IsMend : MendOptions → List ℕ → Set → Answer → Type 0
 IsMend asked bytes set answer =
     (IsTypable set × (answer ≡ ended Complete nothing_told))
     ⊎ IsMended asked (text_of (is_image bytes) bytes set) set answer
 
 -- what `mend` answers for what its source has
-abbrev pub IsMendOf : Asked → Supply → Answer → Type 0
+abbrev pub IsMendOf : MendOptions → Supply → Answer → Type 0
 IsMendOf asked supply answer =
     (bytes : List ℕ) × Holds supply bytes × IsOfFile (IsMend asked bytes) bytes answer

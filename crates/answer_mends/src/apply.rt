@@ -27,9 +27,9 @@ use report::lines::Lines;
 use std::alloc::{AllocError, Global};
 use verifier::verify;
 
-/// What is asked for.
+/// How mends are looked for, and which of them is applied.
 #[derive(Clone, Copy)]
-pub struct Asked {
+pub struct ApplyOptions {
     /// How often a mend is tried of each faulty routine.
     pub tries: u64,
     /// Which of the mends that are found is applied.
@@ -44,7 +44,7 @@ pub struct Asked {
 /// whole text stands in memory and the diff was written.
 pub fn apply<S: Source, O: Sink, W: Sink, E: Sink>(
     alloc: Global,
-    asked: Asked,
+    asked: ApplyOptions,
     set: &mut S,
     out: &mut O,
     target: &mut W,
@@ -76,7 +76,7 @@ pub fn apply<S: Source, O: Sink, W: Sink, E: Sink>(
 /// Applies a mend of the text that a source has.
 fn apply_source<S: Source, O: Sink, W: Sink>(
     alloc: Global,
-    asked: Asked,
+    asked: ApplyOptions,
     set: &mut S,
     out: &mut O,
     target: &mut W,
@@ -140,7 +140,7 @@ fn put<O: Sink, W: Sink>(applying: &Applying, out: &mut O, target: &mut W) -> Re
 /// What is answered on the set that the bytes of a file name.
 fn applying_on(
     alloc: Global,
-    asked: Asked,
+    asked: ApplyOptions,
     bytes: &[u8],
     set: DriverSet,
 ) -> Result<Applying, AllocError>
@@ -166,7 +166,7 @@ fn applying_on(
 /// What is answered on a refused set: its text, or the listing of an image, is mended.
 fn applying_on_refused(
     alloc: Global,
-    asked: Asked,
+    asked: ApplyOptions,
     bytes: &[u8],
     text: &[u8],
     set: &DriverSet,

@@ -9,7 +9,7 @@ ghost use Rattle.answer_mends.specs.Json.{sentences_json, standing_name};
 
 use crate::judged_offers::{Offer, any_whole, is_sure, make_offers};
 use crate::judging::Extent;
-use crate::mend::Asked;
+use crate::mend::MendOptions;
 use crate::reply::{end_of, text_of};
 use answer::as_json::{Json, line_of};
 use answer::as_text::ended;
@@ -32,7 +32,7 @@ const FORMAT: &str = "pafteis.mends/1";
 /// Verdicts as mends, in JSON, as [`MendsText`](crate::mend::MendsText) tells them.
 #[derive(Clone, Copy)]
 pub struct MendsJson {
-    pub asked: Asked,
+    pub asked: MendOptions,
 }
 
 impl Form for MendsJson {

@@ -19,9 +19,9 @@ use report_json::fault::InputFault;
 use std::alloc::{AllocError, Global};
 use verifier::Accepted;
 
-/// What is asked for.
+/// How mends are looked for.
 #[derive(Clone, Copy)]
-pub struct Asked {
+pub struct MendOptions {
     /// How often a mend is tried of each faulty routine.
     pub tries: u64,
 }
@@ -32,7 +32,7 @@ pub struct Asked {
 /// where a part of it is or nothing.
 #[derive(Clone, Copy)]
 pub struct MendsText {
-    pub asked: Asked,
+    pub asked: MendOptions,
 }
 
 impl Form for MendsText {
@@ -103,7 +103,7 @@ impl Form for MendsText {
 /// # Errors
 ///
 /// When memory runs out.
-pub fn mend(alloc: Global, asked: Asked, bytes: &[u8]) -> Result<Told, AllocError>
+pub fn mend(alloc: Global, asked: MendOptions, bytes: &[u8]) -> Result<Told, AllocError>
     ensures { IfOk result (IsMendOf asked (Bytes bytes.now)) }
 {
     let judged = Judged {

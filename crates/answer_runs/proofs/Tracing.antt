@@ -25,7 +25,7 @@ use Rattle.answer_runs.specs.contracts.in_text.TextRunForm.TheImpl.{ghosts as te
 use Rattle.answer_runs.specs.InJson.{IsJudgedJson, IsRanJson, IsRunInJson, IsRunJsonOf, IsTraceJsonOf, event_line}
 use Rattle.answer_runs.specs.Traced.{IsTraceBy}
 use Rattle.answer_runs.specs.Tracing.{IsTraced, IsTracedBy}
-use Rattle.answer_runs.specs.declared.trace.Asked.{Asked}
+use Rattle.answer_runs.specs.declared.trace.TraceOptions.{TraceOptions}
 use Rattle.answer_runs.proofs.Following.{lines_same}
 
 -- the lines of a run are its trace: as text all of them, since memory doesn't run out on the way
@@ -117,7 +117,7 @@ json_judged it name other Skipped set schedule answer
 json_judged it name other Skipped set schedule answer (bytes, holds, inr (fault, says, is)) =
     (bytes, holds, (Err fault, says, is))
 
-pub in_json : (it : Json) (asked : Asked) (set schedule : Supply) (answer : Answer)
+pub in_json : (it : Json) (asked : TraceOptions) (set schedule : Supply) (answer : Answer)
     → IsRunOf json_form it asked.set.now asked.verification
     (IsTracedBy json_run it asked.schedule.now) set schedule answer
     → IsTraceJsonOf asked set schedule answer

@@ -17,7 +17,7 @@ use Rattle.drvhost_devices.specs.Answer.{Answer, shown_replies}
 use Rattle.drvhost_devices.specs.Device.{Holds, Supply}
 use Rattle.answer.specs.Check.{IsRefusalJson}
 use Rattle.answer.specs.Told.{IsToldOf, fault_answer}
-use Rattle.answer_runs.specs.declared.trace.Asked.{Asked}
+use Rattle.answer_runs.specs.declared.trace.TraceOptions.{TraceOptions}
 use Rattle.answer_runs.specs.Traced.{IsBeginning, traced_by}
 
 -- the line of the reply to the event of a number
@@ -47,12 +47,12 @@ IsJudgedJson Required name IsRun set answer =
 IsJudgedJson Skipped name IsRun set answer = IsRun set answer
 
 -- what is right for a set
-abbrev pub IsTraceJson : Asked → Supply → Set → Answer → Type 0
+abbrev pub IsTraceJson : TraceOptions → Supply → Set → Answer → Type 0
 IsTraceJson asked schedule set answer =
     IsJudgedJson asked.verification asked.set.now (IsRunJsonOf asked.schedule.now schedule) set answer
 
 -- what `trace` answers for what the sources have that are the files of these names: it reads the
 -- schedule's for a run alone
-abbrev pub IsTraceJsonOf : Asked → Supply → Supply → Answer → Type 0
+abbrev pub IsTraceJsonOf : TraceOptions → Supply → Supply → Answer → Type 0
 IsTraceJsonOf asked set schedule answer =
     IsToldOf (λ bytes. IsTraceJson asked schedule) asked.set.now set answer

@@ -9,8 +9,7 @@ ghost use Rattle.report.specs.Host.{agrees_line};
 ghost use Rattle.report.specs.Lines.{HasRoom};
 ghost use Rattle.drvhost_devices.specs.Device.{Adds, CanCount, Says, SaysBehind, Supply};
 ghost use Rattle.drvhost_devices.specs.Device.{TakesBeginning};
-ghost use Rattle.drvhost_devices.specs.Ends.{HoldsRun};
-ghost use Rattle.answer_explain.specs.Devices.{AnswersBy};
+ghost use Rattle.drvhost_devices.specs.Ends.{AnswersBy, HoldsRun};
 ghost use Rattle.drvhost_devices.specs.Fault.{reads_failed, status_of, writes_failed};
 ghost use Rattle.drvhost_devices.specs.Ready.{CanAnswer};
 ghost use Rattle.answer_runs.specs.Hosted.{HasServed, IsHosted, IsNoted};
@@ -40,7 +39,7 @@ use workers_script::{Hosted, serve_script};
 
 /// What a script is served with.
 #[derive(Drop)]
-pub struct Hosting<'a, R, G> {
+pub struct HostConfig<'a, R, G> {
     /// The runtime that starts the workers.
     pub runtime: &'a R,
     /// How many workers there are: 1 to 64.
@@ -64,7 +63,7 @@ pub fn host<S: Source, P: Source, G: Gate + Sync, O: Sink, E: Sink, R: Threads +
     alloc: Global,
     set: &mut S,
     script: &mut P,
-    hosting: &Hosting<'_, R, G>,
+    hosting: &HostConfig<'_, R, G>,
     out: &mut O,
     err: &mut E,
 ) -> u8
@@ -97,7 +96,7 @@ pub fn host<S: Source, P: Source, G: Gate + Sync, O: Sink, E: Sink, R: Threads +
 pub(crate) fn serve_ready<G: Gate + Sync, R: Threads + Wait + Sync>(
     alloc: Global,
     ready: Result<Option<Ready>, Fault>,
-    hosting: &Hosting<'_, R, G>,
+    hosting: &HostConfig<'_, R, G>,
     page: &mut Page,
 ) -> Result<Option<Hosted>, Fault>
     requires workers { AreWorkers hosting.now.workers }
@@ -122,7 +121,7 @@ pub(crate) fn serve_ready<G: Gate + Sync, R: Threads + Wait + Sync>(
 fn serve<G: Gate + Sync, R: Threads + Wait + Sync>(
     alloc: Global,
     ready: Ready,
-    hosting: &Hosting<'_, R, G>,
+    hosting: &HostConfig<'_, R, G>,
     page: &mut Page,
 ) -> Result<Hosted, Fault>
     requires workers { AreWorkers hosting.now.workers }
@@ -138,7 +137,7 @@ fn serve<G: Gate + Sync, R: Threads + Wait + Sync>(
         commands,
         warnings: _,
     } = ready;
-    let Hosting {
+    let HostConfig {
         runtime,
         workers,
         gate,

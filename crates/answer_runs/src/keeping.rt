@@ -17,7 +17,7 @@ ghost use Rattle.model.specs.declared.limits.TheConstants.{MAX_THREADS};
 ghost use Rattle.model.specs.Set.{Set};
 ghost use Rattle.workers_script.specs.Told.{Hosts};
 
-use crate::host::{Hosting, finish_page, serve_ready, tell_hosted, tell_refusal};
+use crate::host::{HostConfig, finish_page, serve_ready, tell_hosted, tell_refusal};
 use crate::page::Page;
 use crate::ready::{get_ready, warn};
 use drvhost_devices::device::{Sink, Source};
@@ -36,7 +36,7 @@ use workers_script::Hosted;
 #[derive(Drop)]
 pub struct Keeping<'a, R, G> {
     pub alloc: Global,
-    pub hosting: Hosting<'a, R, G>,
+    pub hosting: HostConfig<'a, R, G>,
 }
 
 /// Has the commands of a script served as [`host`](crate::host::host) does, and answers as it does.

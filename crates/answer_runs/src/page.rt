@@ -8,7 +8,7 @@ ghost use Rattle.answer_runs.specs.Served.{TellsOfRing, rings_in};
 ghost use Rattle.tell_audit.specs.Findings.{ringed_threads};
 ghost use Rattle.verifier_warnings.specs.Warnings.{AreWarnings};
 
-use answer_explain::warning::lock_warnings;
+use answer::origin::origin_of;
 use checked::Checked;
 use drvhost_devices::device::Source;
 use drvhost_devices::fault::Fault;
@@ -20,6 +20,7 @@ use std::alloc::{AllocError, Global};
 use tell_audit::findings::ringed_threads;
 use tell_changes::ring_words;
 use verifier::Accepted;
+use verifier_warnings::warnings;
 
 /// What gathers while a script is served.
 #[derive(Drop)]
@@ -68,7 +69,7 @@ impl Page {
         ensures warnings { IfOk result (λ words. AreWarnings accepted.now words.items) }
         ensures fault { IfErr result (λ fault. fault ≡ Fault.Memory) }
     {
-        Ok(lock_warnings(alloc, self.bytes.as_slice(), accepted)?)
+        Ok(warnings(alloc, origin_of(self.bytes.as_slice()), accepted)?.into_bytes())
     }
 
     /// Notes which threads wait in a ring in what stands after a history, with what is told of

@@ -1,21 +1,24 @@
 //! What is read before workers serve a script.
 
-ghost use Rattle.std.specs.Prelude.{◌≡◌, ◌+◌, ◌≤◌, ◌⊎◌, Err, IfErr, IfOk, length};
+ghost use Rattle.std.specs.Prelude.{◌≡◌, ◌≢◌, ◌+◌, ◌++◌, ◌≤◌, ◌⊎◌, Err, IfErr, IfOk, OnOk, length};
 ghost use Rattle.interleave_texts.specs.declared.script_parse.TheConstants.{MAX_COMMANDS};
 ghost use Rattle.drvhost_devices.specs.Device.{CanCount, Says};
 ghost use Rattle.drvhost_devices.specs.Ends.{HoldsRun};
 ghost use Rattle.drvhost_devices.specs.Fault.{ReadsScript, reads_failed, writes_failed};
+ghost use Rattle.report.specs.Lines.{HasRoom};
+ghost use Rattle.report.specs.Verdict.{refusal_line};
 ghost use Rattle.answer_runs.specs.Hosting.{IsBlank};
 ghost use Rattle.answer_runs.specs.Readiness.{IsReady, IsReadyOf, warnings_in};
 
 use crate::page::Page;
-use answer_explain::check::refuse;
 use drvhost_devices::device::{Sink, Source};
 use drvhost_devices::fault::{Fault, of_script, say};
 use drvhost_devices::transfer::read_whole;
 use drvhost_devices::verification::Verification;
 use interleave_texts::script_parse::parse_script;
+use model::abs::{Refusal, Rule};
 use model::history::Command;
+use report::lines::Lines;
 use std::alloc::Global;
 use verifier::{Accepted, verify};
 
@@ -113,4 +116,18 @@ fn read_script<P: Source>(alloc: Global, source: &mut P) -> Result<Vec<Command>,
         Ok(commands) => Ok(commands),
         Err(fault) => Err(of_script(fault)),
     }
+}
+
+/// Adds the line of a refusal; one for want of memory is no verdict.
+fn refuse(refusal: &Refusal, lines: &mut Lines) -> Result<(), Fault>
+    requires { HasRoom lines.old }
+    ensures refused { OnOk result ((refusal.now.rule ≢ Rule.Memory)
+        × (lines.new ≡ lines.old ++ refusal_line refusal.now)) }
+    ensures memory { IfErr result (λ fault. fault ≡ Fault.Memory) }
+{
+    if refusal.rule == Rule::Memory {
+        return Err(Fault::Memory);
+    }
+    lines.refusal(refusal);
+    Ok(())
 }

@@ -3,11 +3,10 @@
 ghost use Rattle.std.specs.Prelude.{◌≡◌, ◌+◌, ◌⊎◌, ℕ, IfErr, IfOk};
 ghost use Rattle.interleave.specs.Listing.{IsWithinLimits};
 ghost use Rattle.drvhost_devices.specs.Device.{CanCount, Says};
-ghost use Rattle.drvhost_devices.specs.Ends.{Answers, HoldsRun, IsTraceOf};
+ghost use Rattle.drvhost_devices.specs.Ends.{Answers, AnswersOver, HoldsRun, IsTraceOf};
 ghost use Rattle.drvhost_devices.specs.Fault.{reads_failed, status_of, told_of, writes_failed};
 ghost use Rattle.drvhost_devices.specs.Ready.{CanAnswer, CanWrite};
 ghost use Rattle.answer.specs.Run.{IsRunOf, IsRunOfBytes, IsSetToRun, set_chosen};
-ghost use Rattle.answer_explain.specs.Devices.{AnswersOver};
 ghost use Rattle.answer_runs.specs.InJson.{IsTraceJsonOf};
 ghost use Rattle.answer_runs.specs.Traced.{Streams};
 ghost use Rattle.answer_runs.specs.Tracing.{IsOfReady, IsReadyFor, IsRunBy, IsTracedBy};
@@ -70,7 +69,7 @@ pub fn trace<S: Source, P: Source, O: Sink, E: Sink>(
 
 /// A run whose trace is asked for: the names of its files, and whether the set has to be accepted.
 #[derive(Clone, Copy)]
-pub struct Asked<'n> {
+pub struct TraceOptions<'n> {
     pub set: &'n str,
     pub schedule: &'n str,
     pub verification: Verification,
@@ -80,7 +79,7 @@ pub struct Asked<'n> {
 /// failed or memory ran out is told on the error writer.
 pub fn trace_json<S: Source, P: Source, O: Sink, E: Sink>(
     alloc: Global,
-    asked: Asked<'_>,
+    asked: TraceOptions<'_>,
     set: &mut S,
     schedule: &mut P,
     out: &mut O,

@@ -1,5 +1,5 @@
 -- How a job goes where its parts do, and how a command ends.
-use Rattle.std.proofs.Common.{◌≡◌, ◌∙◌, ◌≢◌, ℕ, List, [], ◌++◌, ◌⊎◌, inl, inr, Option, Result, Ok, Err, IfOk, IfErr, refl, sym, ap, subst}
+use Rattle.std.proofs.Common.{◌≡◌, ◌∙◌, ◌≢◌, ℕ, List, [], ◌⊎◌, inl, inr, Option, Result, Ok, Err, IfOk, IfErr, refl, sym, ap, subst}
 use Rattle.std.proofs.lemmas.List.{append-nil}
 use Rattle.std.specs.Io.KnownBytes.{Appends}
 use Rattle.model.specs.declared.abs.Refusal.{Refusal}
@@ -13,10 +13,10 @@ use Rattle.drvhost_devices.specs.declared.fault.End.TheVariants.{Stopped}
 use Rattle.drvhost_devices.specs.declared.fault.Fault.{Fault}
 use Rattle.drvhost_devices.specs.declared.fault.Fault.TheVariants.{Read, Write, Memory, Text, Image, Schedule as OfSchedule, Script as OfScript}
 use Rattle.drvhost_devices.specs.Answer.{Answer, IsRefused, ended}
-use Rattle.drvhost_devices.specs.Device.{Supply, TakesBeginning}
+use Rattle.drvhost_devices.specs.Device.{Supply}
 use Rattle.drvhost_devices.specs.Ends.{Ends, IsOfSupply, Rightly, ReadFailed, WriteFailed, OutOfMemory}
 use Rattle.drvhost_devices.specs.Fault.{Goes, ReadsSet, reads_failed, status_of, told_of, writes_failed}
-use Rattle.drvhost_devices.proofs.Writing.{adds_all, adds_breaks, appends_none, keeps_same}
+use Rattle.drvhost_devices.proofs.Writing.{appends_none, keeps_same}
 
 -- where more answers are right
 pub goes_rightly : (R Q : Answer → Type 0) (b n : Option (List ℕ)) (g l : List ℕ)
@@ -41,18 +41,6 @@ goes_left R b n l k (Text fault) h = h
 goes_left R b n l k (Image fault) h = h
 goes_left R b n l k (OfSchedule fault) h = h
 goes_left R b n l k (OfScript fault) h = h
-
--- where the lines that gathered are written, or a beginning of them
-pub goes_written : (R : Answer → Type 0) (b m n : Option (List ℕ)) (l : List ℕ) (end : End)
-    → Goes R b m [] l (Ok end) → Appends m n l → Goes R b n [] [] (Ok end)
-goes_written R b m n l end h p = (h.0, h.1, adds_all b m n [] l h.0 h.2 p)
-
-pub goes_broken : (R : Answer → Type 0) (b m n : Option (List ℕ)) (l : List ℕ) (end : End)
-    → Goes R b m [] l (Ok end) → TakesBeginning m n l → Goes R b n [] [] (Err Write)
-goes_broken R b m n l end h p =
-    let broken : TakesBeginning b n (h.0 ++ []) = adds_breaks b m n [] l h.0 [] h.2 p in
-    let P : List ℕ → Type 0 = TakesBeginning b n in
-    (ended end h.0, h.1, subst P (append-nil h.0) broken)
 
 -- an answer for the set that a source has
 pub right_on : (R : Set → Answer → Type 0) (held : Supply) (set : Set) → ReadsSet held (Ok set)

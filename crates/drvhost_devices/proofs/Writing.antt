@@ -132,24 +132,6 @@ gathered_line all later line after b n g l h e =
       adds = adds_line b n g l h.text line h.adds;
     }
 
--- some lines more, of which some may be written
-pub gathered_more : (all later lines after : List ℕ) (b m n : Option (List ℕ)) (g l k : List ℕ)
-    → Gathered all later b m g l → later ≡ lines ++ after → Adds m n l k lines
-    → Gathered all after b n g k
-gathered_more all later lines after b m n g l k h e a =
-    record {
-      text = h.text ++ lines;
-      whole = h.whole ∙ ap (λ x. h.text ++ x) e ∙ sym (append_assoc h.text lines after);
-      adds = adds_more b m n g l k h.text lines h.adds a;
-    }
-
--- all lines were added
-pub gathered_all : (all later : List ℕ) (b n : Option (List ℕ)) (g l : List ℕ)
-    → Gathered all later b n g l → later ≡ [] → Adds b n g l all
-gathered_all all later b n g l h none =
-    subst (λ (lines : List ℕ). Adds b n g l lines)
-    (sym (h.whole ∙ ap (λ x. h.text ++ x) none ∙ append-nil h.text)) h.adds
-
 -- a write fails
 pub gathered_broken : (all later : List ℕ) (b m n : Option (List ℕ)) (g l : List ℕ)
     → Gathered all later b m g l → TakesBeginning m n l → TakesBeginning b n (g ++ all)

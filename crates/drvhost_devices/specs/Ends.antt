@@ -1,12 +1,13 @@
 -- How a command ends, for what its devices hold.
 use Rattle.std.specs.Prelude.{ℕ, ◌≡◌, ◌+◌, ◌⊎◌, List, codes, Ok, Option}
 use Rattle.std.specs.Io.KnownBytes.{Appends, Keeps}
+use Rattle.drvhost_devices.specs.declared.device.Sink as sink
 use Rattle.drvhost_devices.specs.declared.fault.End.TheVariants.{Complete}
 use Rattle.drvhost_devices.specs.declared.verification.Verification.{Verification}
 use Rattle.interleave.specs.Listing.{schedule_in}
 use Rattle.model.specs.Set.{Set}
 use Rattle.drvhost_devices.specs.Answer.{Answer, FileSays, IsListing, IsOfFile, IsRewritten, IsToRun, IsTraced, IsVerdict, ended, ran}
-use Rattle.drvhost_devices.specs.Device.{Bytes, Holds, Supply, TakesBeginning}
+use Rattle.drvhost_devices.specs.Device.{Bytes, Holds, Says, Supply, TakesBeginning}
 
 -- what is right for the set that a source has, where these are the right answers for a set
 abbrev pub IsOfSupply : (Set → Answer → Type 0) → Supply → Answer → Type 0
@@ -85,3 +86,22 @@ pub record Answers (Right : Answer → Type 0)
   pub writes_are : writes_after ≡ writes_before + writes
   pub tells : Tells told
   pub ends : Ends Right reads writes before after status told
+
+-- a command answers, where these answers are right, and telling is done so: its sources' counts of
+-- failed reads before and after, its sinks before and after, and its exit status
+abbrev pub AnswersBy : {O E : Type 0} → sink.Ghosts O → sink.Ghosts E
+    → (ℕ → ℕ → Option (List ℕ) → Option (List ℕ) → List ℕ → Type 0) → (Answer → Type 0)
+    → ℕ → ℕ → O → O → E → E → ℕ → Type 0
+AnswersBy {O} {E} output errors Tells Right reads_before reads_after out_before out_after
+    err_before err_after status =
+    Answers Right reads_before reads_after
+    (output.failures out_before) (output.failures out_after)
+    (output.contents out_before) (output.contents out_after)
+    (Tells (errors.failures err_before) (errors.failures err_after)
+    (errors.contents err_before) (errors.contents err_after))
+    status
+
+-- and where nothing else is told
+abbrev pub AnswersOver : {O E : Type 0} → sink.Ghosts O → sink.Ghosts E → (Answer → Type 0)
+    → ℕ → ℕ → O → O → E → E → ℕ → Type 0
+AnswersOver {O} {E} output errors = AnswersBy output errors Says

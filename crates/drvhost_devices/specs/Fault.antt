@@ -1,5 +1,5 @@
 -- What a fault says of the devices, and how it is answered.
-use Rattle.std.specs.Prelude.{ℕ, ⊤, ◌≡◌, ◌++◌, ◌⊎◌, List, [], codes, Option, Result, Ok, Err}
+use Rattle.std.specs.Prelude.{ℕ, ⊤, ◌≡◌, ◌++◌, List, [], codes, Option, Result, Ok, Err}
 use Rattle.std.specs.Io.KnownBytes.{Keeps}
 use Rattle.asm.specs.declared.fault.AsmFault.{AsmFault}
 use Rattle.asm.specs.declared.fault.AsmKind.{AsmKind}
@@ -189,12 +189,6 @@ ReadsScript held (Err Write) = ⊥
 ReadsScript held (Err (Text fault)) = ⊥
 ReadsScript held (Err (Image fault)) = ⊥
 ReadsScript held (Err (OfSchedule fault)) = ⊥
-
--- the line of a fault is told with some words behind it, or memory ran out
-abbrev pub TellsLine : List ℕ → (List ℕ → Type 0) → ℕ → Type 0
-TellsLine line Tells status =
-    ((words : List ℕ) × Tells (line ++ words) × (status ≡ 2))
-    ⊎ (Tells (codes "out of memory\n") × (status ≡ 3))
 
 -- a job has come to its end or to a fault, where these answers are right, with lines that gathered
 -- before and gather now: the output of a right answer was added; a write failed, and a beginning of

@@ -1,9 +1,9 @@
 //! What keeps a job from its answer, and how it is told.
 
-ghost use Rattle.std.specs.Prelude.{◌≡◌, ◌++◌, IfOk};
+ghost use Rattle.std.specs.Prelude.{◌≡◌};
 ghost use Rattle.drvhost_devices.specs.Answer.{end_status};
 ghost use Rattle.drvhost_devices.specs.Device.{CanCount, Says};
-ghost use Rattle.drvhost_devices.specs.Fault.{TellsLine, fault_status, fault_told, image_fault};
+ghost use Rattle.drvhost_devices.specs.Fault.{fault_status, fault_told, image_fault};
 ghost use Rattle.drvhost_devices.specs.Fault.{schedule_fault, script_fault, status_of, text_fault};
 ghost use Rattle.drvhost_devices.specs.Fault.{told_of};
 
@@ -15,7 +15,7 @@ use interleave::schedule::{ScheduleFault, ScheduleKind};
 use model::memory::OutOfMemory;
 use report::fault::{OUT_OF_MEMORY, READ_FAILED, WRITE_FAILED};
 use report::lines::Lines;
-use std::alloc::{AllocError, Global};
+use std::alloc::AllocError;
 
 /// How a job that met no fault ended.
 #[derive(Clone, Copy)]
@@ -194,32 +194,6 @@ pub fn no_memory<E: Sink>(err: &mut E) -> u8
 {
     say(err, OUT_OF_MEMORY.as_bytes());
     Fault::Memory.status()
-}
-
-/// Tells the line of a fault on the error writer, with words on it behind. The answer is the exit
-/// status: 2, or 3 where memory ran out.
-pub fn say_with_words<E: Sink>(alloc: Global, line: &[u8], words: &[u8], err: &mut E) -> u8
-    requires { CanCount (E.failures err.old) }
-    ensures { TellsLine line.now (Says (E.failures err.old) (E.failures err.new)
-        (E.contents err.old) (E.contents err.new)) result }
-{
-    match joined(alloc, line, words) {
-        Ok(told) => {
-            say(err, told.as_slice());
-            2
-        }
-        Err(AllocError) => no_memory(err),
-    }
-}
-
-/// The line of a fault, with words on it behind.
-fn joined(alloc: Global, line: &[u8], words: &[u8]) -> Result<Vec<u8>, AllocError>
-    ensures { IfOk result (λ told. told.items ≡ line.now ++ words.now) }
-{
-    let mut told = Vec::new(alloc);
-    told.extend_from_slice(line)?;
-    told.extend_from_slice(words)?;
-    Ok(told)
 }
 
 /// Writes to the error writer; there is no one left to tell where that fails.

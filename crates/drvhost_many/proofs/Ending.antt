@@ -31,27 +31,12 @@ pub record SoFar (judging : Judging) (supply : List ℕ → Supply) (names : Lis
   pub appended : Appends before after answer.output
   pub tells : Tells answer.told
 
-behind_none : (failures e : ℕ) (p : Option (List ℕ)) → SaysBehind failures e e p p []
-behind_none failures e p = λ start told says.
-    let P : List ℕ → Type 0 = Says failures e start p in subst P (sym (append-nil told)) says
-
 -- what is said behind nothing is said
 behind_says : (failures e h : ℕ) (p t : Option (List ℕ)) (told : List ℕ) → failures ≡ e
     → SaysBehind failures e h p t told → Says e h p t told
 behind_says failures e h p t told same behind =
     let P : ℕ → Type 0 = λ x. Says x h p t told in
     subst P same (behind p [] (inl (sym same, appends_none p p (keeps_same p))))
-
-pub so_far_none : (judging : Judging) (supply : List ℕ → Supply) (b : Option (List ℕ)) (failures e : ℕ)
-    (p : Option (List ℕ)) → SoFar judging supply [] 0 0 b b (SaysBehind failures e e p p)
-so_far_none judging supply b failures e p =
-    record {
-      answer = nothing;
-      are = (refl, refl);
-      status_is = refl;
-      appended = appends_none b b (keeps_same b);
-      tells = behind_none failures e p;
-    }
 
 -- none is left
 pub none_left : {A : Type 0} (xs : List A) → (length xs == 0) ≡ true → xs ≡ []

@@ -19,8 +19,8 @@ use Rattle.answer.specs.declared.form.Form as form
 use Rattle.answer_explain.proofs.Explained.{explained_said}
 use Rattle.answer_explain.specs.Explained.{IsFileExplained, IsShownFor}
 use Rattle.answer_explain.specs.contracts.explaining.ExplainedTextForm.TheImpl.{ghosts as words_form}
-use Rattle.drvhost_formats.proofs.Explained.{explained_told}
-use Rattle.drvhost_formats.specs.contracts.explain.ExplainedJsonForm.TheImpl.{ghosts as lines_form}
+use Rattle.answer_explain.proofs.OfJson.{explained_told}
+use Rattle.answer_explain.specs.contracts.in_json.ExplainedJsonForm.TheImpl.{ghosts as lines_form}
 use Rattle.drvhost_many.specs.One.{IsJudged, IsJudgedFrom}
 use Rattle.drvhost_many.specs.Painted.{IsShown}
 use Rattle.drvhost_many.proofs.Known.{judged_known}

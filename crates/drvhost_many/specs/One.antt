@@ -11,7 +11,7 @@ use Rattle.drvhost_devices.specs.Ends.{IsCheckOf}
 use Rattle.answer.specs.declared.content.Content.{Content}
 use Rattle.answer.specs.declared.content.Content.TheVariants.{Whole, Unread, Unopened}
 use Rattle.answer.specs.Check.{IsCheckJsonOf}
-use Rattle.drvhost_formats.specs.Explain.{IsExplainJsonOf}
+use Rattle.answer_explain.specs.Explain.{IsExplainJsonOf}
 use Rattle.answer.specs.Told.{IsUnopenedJson}
 use Rattle.answer_explain.specs.Explained.{IsFileExplained}
 use Rattle.drvhost_many.specs.Painted.{IsShown}

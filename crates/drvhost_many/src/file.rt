@@ -17,12 +17,12 @@ use answer::deliver::deliver;
 use answer::job::Job;
 use answer::judged::Judged;
 use answer_explain::explaining::ExplainedText;
+use answer_explain::in_json::ExplainedJson;
 use answer_explain::showing::WithHunt;
 use cli::job::Judging;
 use drvhost_devices::device::{Sink, Source};
 use drvhost_devices::told::Told;
 use drvhost_files::reading::{Contents, Held};
-use drvhost_formats::explain::ExplainedJson;
 use std::alloc::{AllocError, Global};
 
 /// The job of judging a set so, in the form that this names.

@@ -2,10 +2,9 @@
 
 ghost use Rattle.std.specs.Prelude.{◌≡◌, ◌+◌, ◌++◌, ◌⊎◌, IfErr, IfOk, OnOk};
 ghost use Rattle.drvhost_devices.specs.Device.{CanCount, Supply};
-ghost use Rattle.drvhost_devices.specs.Ends.{HoldsRun};
+ghost use Rattle.drvhost_devices.specs.Ends.{AnswersOver, HoldsRun};
 ghost use Rattle.drvhost_devices.specs.Fault.{reads_failed};
 ghost use Rattle.drvhost_devices.specs.Ready.{CanAnswer};
-ghost use Rattle.answer_explain.specs.Devices.{AnswersOver};
 ghost use Rattle.answer.specs.Run.{IsChosenAs, IsSetToRun, set_chosen};
 ghost use Rattle.answer.specs.Told.{IsToldOfFile};
 ghost use Rattle.answer_runs.specs.Hosting.{AreWorkers};
@@ -18,7 +17,7 @@ use answer::as_json::{Json, told_fault};
 use answer::as_text::ended;
 use answer::deliver::{tell_unread, write_answer};
 use answer::run::{Begun, Chosen, ToRun};
-use answer_runs::host::{Hosting, end_of};
+use answer_runs::host::{HostConfig, end_of};
 use checked::Checked;
 use drvhost_devices::device::{Sink, Source};
 use drvhost_devices::fault::Fault;
@@ -44,10 +43,10 @@ use workers_script::{Hosted, serve_script};
 
 /// A script that is to be served: the names of its files, and with what it is served.
 #[derive(Drop)]
-pub struct Asked<'a, R, G> {
+pub struct HostOptions<'a, R, G> {
     pub set: &'a str,
     pub script: &'a str,
-    pub hosting: Hosting<'a, R, G>,
+    pub hosting: HostConfig<'a, R, G>,
 }
 
 /// Has the commands of a script served as [`host`](answer_runs::host::host) does, and writes an
@@ -59,7 +58,7 @@ pub struct Asked<'a, R, G> {
 /// the error writer. Nothing is written before the whole text stands in memory.
 pub fn host_json<S: Source, P: Source, G: Gate + Sync, O: Sink, E: Sink, R: Threads + Wait + Sync>(
     alloc: Global,
-    asked: &Asked<'_, R, G>,
+    asked: &HostOptions<'_, R, G>,
     set: &mut S,
     script: &mut P,
     out: &mut O,
@@ -89,7 +88,7 @@ struct Serving;
 /// The answer for what the sources have.
 fn served<S: Source, P: Source, G: Gate + Sync, R: Threads + Wait + Sync>(
     alloc: Global,
-    asked: &Asked<'_, R, G>,
+    asked: &HostOptions<'_, R, G>,
     set: &mut S,
     script: &mut P,
 ) -> Result<Told, Fault>
@@ -112,7 +111,7 @@ fn served<S: Source, P: Source, G: Gate + Sync, R: Threads + Wait + Sync>(
 /// The answer where the file of the set has these bytes.
 fn served_for<P: Source, G: Gate + Sync, R: Threads + Wait + Sync>(
     alloc: Global,
-    asked: &Asked<'_, R, G>,
+    asked: &HostOptions<'_, R, G>,
     bytes: &[u8],
     script: &mut P,
 ) -> Result<Told, Fault>
@@ -141,7 +140,7 @@ fn served_for<P: Source, G: Gate + Sync, R: Threads + Wait + Sync>(
 /// Has the script served that a source has over a set, which is accepted.
 fn serve_chosen<P: Source, R: Threads + Wait + Sync, G: Gate + Sync>(
     alloc: Global,
-    asked: &Asked<'_, R, G>,
+    asked: &HostOptions<'_, R, G>,
     chosen: Chosen,
     script: &mut P,
 ) -> Result<Told, Fault>
@@ -162,7 +161,7 @@ fn serve_chosen<P: Source, R: Threads + Wait + Sync, G: Gate + Sync>(
 /// Has it served over an accepted set.
 fn serve_source<P: Source, R: Threads + Wait + Sync, G: Gate + Sync>(
     alloc: Global,
-    asked: &Asked<'_, R, G>,
+    asked: &HostOptions<'_, R, G>,
     accepted: Accepted,
     script: &mut P,
 ) -> Result<Told, Fault>
@@ -180,7 +179,7 @@ fn serve_source<P: Source, R: Threads + Wait + Sync, G: Gate + Sync>(
 /// Has what was read of a script served over an accepted set, or tells its fault.
 fn serve_read<R: Threads + Wait + Sync, G: Gate + Sync>(
     alloc: Global,
-    asked: &Asked<'_, R, G>,
+    asked: &HostOptions<'_, R, G>,
     accepted: Accepted,
     read: Result<Vec<Command>, ScheduleFault>,
 ) -> Result<Told, AllocError>
@@ -200,14 +199,14 @@ fn serve_read<R: Threads + Wait + Sync, G: Gate + Sync>(
 /// Has commands served over an accepted set.
 fn serve<R: Threads + Wait + Sync, G: Gate + Sync>(
     alloc: Global,
-    hosting: &Hosting<'_, R, G>,
+    hosting: &HostConfig<'_, R, G>,
     accepted: Accepted,
     commands: &[Command],
 ) -> Result<Told, AllocError>
     requires { AreWorkers hosting.now.workers }
     ensures { IfOk result (IsServedInJson hosting.now.workers commands.now accepted) }
 {
-    let Hosting {
+    let HostConfig {
         runtime,
         workers,
         gate,

@@ -2,7 +2,7 @@
 use Rattle.std.specs.Prelude.{ℕ, ◌/◌, ◌%◌, ◌&&◌, Bool, List, nat_eq, nat_le, if◌then◌else◌, Option, None, Some}
 use Rattle.drvhost_devices.specs.Device.{Bytes}
 use Rattle.answer_hunts.specs.Hunt.{IsHuntOf}
-use Rattle.answer_mends.specs.declared.mend.Asked.{Asked}
+use Rattle.answer_mends.specs.declared.mend.MendOptions.{MendOptions}
 use Rattle.answer_mends.specs.Mend.{IsMendOf}
 use Rattle.hunt_facts.specs.declared.bounds.Bounds.{Bounds}
 use Rattle.hunt_facts.specs.declared.bounds.Goal.{Goal}
@@ -42,7 +42,7 @@ Hunts set asked before after needed status =
     status
 
 -- what is asked of a mend, where the number of tries is within its range
-abbrev pub asked_named : ℕ → Option Asked
+abbrev pub asked_named : ℕ → Option MendOptions
 asked_named tries =
     if is_within 1000000 tries then Some (record { tries = tries }) else None
 

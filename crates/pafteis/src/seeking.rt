@@ -4,7 +4,7 @@ ghost use Rattle.std.specs.Prelude.{◌≡◌, ◌≤◌, true};
 ghost use Rattle.pafteis.specs.Seeking.{Hunts, Mends, asked_named, if_flag, is_within, reach_named};
 
 use crate::texts::{put, wrong};
-use answer_mends::mend::Asked;
+use answer_mends::mend::MendOptions;
 use drvhost_devices::tries::MAX_TRIES;
 use hunt_facts::bounds::{Bounds, Goal};
 use hunt_facts::reach::{MAX_PACKETS, MAX_WORLDS, Reach};
@@ -116,11 +116,11 @@ fn if_flag(flag: u32, number: u64) -> Option<u64>
 }
 
 /// What is asked of a mend, where the number of tries is within its range.
-pub(crate) fn asked_of(tries: u64) -> Option<Asked>
+pub(crate) fn asked_of(tries: u64) -> Option<MendOptions>
     ensures { result ≡ asked_named tries }
 {
     if is_within(MAX_TRIES, tries) {
-        Some(Asked { tries })
+        Some(MendOptions { tries })
     } else {
         None
     }

@@ -12,7 +12,7 @@ ghost use Rattle.pafteis_parts.specs.Shown.{IsRunAs};
 
 use answer::as_text::Text;
 use answer::run::ToRun;
-use answer_mends::mend::Asked;
+use answer_mends::mend::MendOptions;
 use answer_runs::trace::trace;
 use answer_views::draw::Drawn;
 use answer_views::tell::{InWords, Telling};
@@ -125,7 +125,7 @@ pub fn hunt(alloc: Global, reach: Reach, set: &[u8]) -> Result<Told, OutOfMemory
 }
 
 /// Mends of a set's text, as diffs.
-pub fn mend(alloc: Global, asked: Asked, set: &[u8]) -> Result<Told, OutOfMemory>
+pub fn mend(alloc: Global, asked: MendOptions, set: &[u8]) -> Result<Told, OutOfMemory>
     ensures { IfOk result (IsMendOf asked (Bytes set.now)) }
 {
     Ok(answer_mends::mend::mend(alloc, asked, set)?)

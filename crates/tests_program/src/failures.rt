@@ -15,7 +15,7 @@ use answer::run::{ToRun, deliver_run};
 use answer_explain::explaining::ExplainedText;
 use answer_explain::rewriting::rewrite;
 use answer_explain::version::version;
-use answer_runs::host::{Hosting, host};
+use answer_runs::host::{HostConfig, host};
 use answer_runs::trace::trace;
 use answer_views::draw::Drawn;
 use answer_views::tell::InWords;
@@ -411,7 +411,7 @@ fn answer<R: Threads + Wait + Sync>(
         }
         Job::Host(script) => {
             let mut script = Slow::new(script, devices.step, devices.orders);
-            let hosting = Hosting {
+            let hosting = HostConfig {
                 runtime: rt,
                 workers: 1,
                 gate: &Open,

@@ -4,7 +4,7 @@
 ghost use Rattle.std.specs.Prelude.{◌≡◌};
 
 use crate::devices::{Narrow, Slow, have_taken};
-use answer_runs::host::Hosting;
+use answer_runs::host::HostConfig;
 use answer_runs::keeping::{Keeping, host_keeping};
 use drvhost_devices::device::Sink;
 use std::alloc::Global;
@@ -40,7 +40,7 @@ fn keep<R: Threads + Wait + Sync>(
     let mut script = Slow::new(SCRIPT, 1, None);
     let keeping = Keeping {
         alloc,
-        hosting: Hosting {
+        hosting: HostConfig {
             runtime: rt,
             workers: 1,
             gate: &Open,

@@ -3,7 +3,7 @@
 ghost use Rattle.std.specs.Prelude.{◌≤◌};
 ghost use Rattle.model.specs.declared.limits.TheConstants.{MAX_THREADS};
 
-use answer_runs::host::{Hosting, host};
+use answer_runs::host::{HostConfig, host};
 use drvhost_devices::device::{Reader, Writer};
 use std::alloc::{AllocError, Global};
 use std::process::Abort;
@@ -50,7 +50,7 @@ fn told_of<R: Threads + Wait + Abort + Sync>(
     let mut commands = Reader::new(Some(script.as_bytes()));
     let mut out = Writer::new(Vec::<u8>::new(alloc));
     let mut err = Writer::new(Vec::<u8>::new(alloc));
-    let hosting = Hosting {
+    let hosting = HostConfig {
         runtime: rt,
         workers,
         gate: watch,

@@ -1,6 +1,6 @@
 //! The program's answers in memory, and in a buffer, as the library for C has them.
 
-use answer_mends::mend::Asked;
+use answer_mends::mend::MendOptions;
 use drvhost_devices::extent::Extent;
 use drvhost_devices::told::Told;
 use drvhost_devices::verification::Verification;
@@ -146,7 +146,7 @@ fn runs_and_mends_in_memory(rt: HostRuntime) {
             b"; bug 0x44 packet 0\nthreads 1\n"
         )
     );
-    let asked = Asked { tries: 100 };
+    let asked = MendOptions { tries: 100 };
     assert!(rt;
         is_told(
             mend(alloc, asked, ECHO),

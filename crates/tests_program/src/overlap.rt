@@ -1,6 +1,6 @@
 //! Two workers that serve a script side by side.
 
-use answer_runs::host::{Hosting, host};
+use answer_runs::host::{HostConfig, host};
 use drvhost_devices::device::{Reader, Writer};
 use std::alloc::Global;
 use std::process::Abort;
@@ -52,7 +52,7 @@ fn serve_reads<R: Threads + Wait + Abort + Sync, C: Clock + Sync>(
     let mut commands = Reader::new(Some(script));
     let mut out = Writer::new(Vec::<u8>::new(alloc));
     let mut err = Writer::new(Vec::<u8>::new(alloc));
-    let hosting = Hosting {
+    let hosting = HostConfig {
         runtime: rt,
         workers: 2,
         gate: pace,

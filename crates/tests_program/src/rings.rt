@@ -3,9 +3,9 @@
 ghost use Rattle.std.specs.Prelude.{◌≤◌};
 ghost use Rattle.model.specs.declared.limits.TheConstants.{MAX_THREADS};
 
-use answer_runs::host::{Hosting, host};
+use answer_runs::host::{HostConfig, host};
 use drvhost_devices::device::{Reader, Writer};
-use drvhost_told::host::{Asked, host_json};
+use drvhost_told::host::{HostOptions, host_json};
 use std::alloc::{AllocError, Global};
 use std::process::Abort;
 use std::sync::Wait;
@@ -70,7 +70,7 @@ fn end_in_ring<R: Threads + Wait + Abort + Sync, C: Clock + Sync>(
     let mut commands = Reader::new(Some(script.as_bytes()));
     let mut out = Writer::new(Vec::<u8>::new(alloc));
     let mut err = Writer::new(Vec::<u8>::new(alloc));
-    let hosting = Hosting {
+    let hosting = HostConfig {
         runtime: rt,
         workers,
         gate: crossing,
@@ -108,10 +108,10 @@ fn end_in_json<R: Threads + Wait + Abort + Sync, C: Clock + Sync>(
     let mut commands = Reader::new(Some(script.as_bytes()));
     let mut out = Writer::new(Vec::<u8>::new(alloc));
     let mut err = Writer::new(Vec::<u8>::new(alloc));
-    let asked = Asked {
+    let asked = HostOptions {
         set: "pair.drv",
         script: "crossing.script",
-        hosting: Hosting {
+        hosting: HostConfig {
             runtime: rt,
             workers: 2,
             gate: crossing,

@@ -1,6 +1,6 @@
 //! How many commands a script may have.
 
-use answer_runs::host::{Hosting, host};
+use answer_runs::host::{HostConfig, host};
 use drvhost_devices::device::{Reader, Writer};
 use std::alloc::{AllocError, Global};
 use std::sync::Wait;
@@ -17,7 +17,7 @@ fn told_of<R: Threads + Wait + Sync>(rt: &R, alloc: Global, script: &[u8]) -> Ve
     let mut commands = Reader::new(Some(script));
     let mut out = Writer::new(Vec::<u8>::new(alloc));
     let mut err = Writer::new(Vec::<u8>::new(alloc));
-    let hosting = Hosting {
+    let hosting = HostConfig {
         runtime: rt,
         workers: 1,
         gate: &Open,

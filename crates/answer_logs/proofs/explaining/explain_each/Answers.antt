@@ -1,6 +1,6 @@
 use Rattle.std.proofs.Common.{arith}
 use Rattle.verifier_words.specs.Faults.{refusals}
-use Rattle.drvhost_evidence.proofs.EachFault.{fault_at}
+use Rattle.answer_explain.proofs.EachFault.{fault_at}
 use Rattle.answer_logs.specs.Found.{IsExplained}
 use Rattle.answer_logs.proofs.Explained.{told_all, told_next}
 use Rattle.answer_logs.proofs.explaining.explain_each.Goals as goal

@@ -1,6 +1,6 @@
 use Rattle.std.proofs.Common.{◌≢◌, refl, rules}
 use Rattle.model.specs.declared.abs.Rule.TheVariants.{Memory}
-use Rattle.drvhost_evidence.proofs.EachFault.{refused_is_fault}
+use Rattle.answer_explain.proofs.EachFault.{refused_is_fault}
 use Rattle.answer_logs.proofs.finding.refused.Goals as goal
 
 pub told-requires : goal.told-requires

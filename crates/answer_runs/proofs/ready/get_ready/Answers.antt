@@ -19,8 +19,8 @@ returns-in_ok-refuse-in-Err-clause-ready g c = (
   unserved_refused _ _ c.in_ok-set.set c.in-Err.refusal _ (Ok Stopped) c.in_ok-set.ensures.set
       c.in-Err.ensures.refused.1 (
         refl,
-        c.in_ok-refuse-in-Err.ensures.refused.1,
-        rw c.read_set.ensures.empty.lines at c.in_ok-refuse-in-Err.ensures.refused.2,
+        c.in_ok-refuse-in-Err.ensures.refused.0,
+        rw c.read_set.ensures.empty.lines at c.in_ok-refuse-in-Err.ensures.refused.1,
       )
       tt,
   c.read_set.ensures.empty.words,

@@ -1,3 +1,0 @@
-pub mod Placing
-pub mod EachFault
-pub mod Showing

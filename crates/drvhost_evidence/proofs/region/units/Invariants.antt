@@ -1,7 +1,0 @@
-use Rattle.std.proofs.Common.{◌≡◌, ◌+◌, ◌*◌, ◌≤◌, drop}
-use Rattle.drvhost_evidence.specs.Regions.{units}
-use Rattle.drvhost_evidence.proofs.region.units.Given as goal
-
-abbrev pub invariant-loop-byte : goal.invariant-loop-byte
-invariant-loop-byte l =
-    (l.all + units (drop l.byte-index l.raw) ≡ units l.raw) × (l.all ≤ 2 * l.byte-index)

@@ -1,3 +1,0 @@
-pub mod Explanation
-pub mod Nesting
-pub mod Explain
