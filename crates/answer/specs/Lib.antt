@@ -4,3 +4,4 @@ pub mod Check
 pub mod Judged
 pub mod Delivered
 pub mod Run
+pub mod Listing

@@ -1,10 +1,10 @@
 -- Which job the matches of a command line name.
 use Rattle.std.specs.Borrow.{Bor}
-use Rattle.std.specs.Prelude.{◌≡◌, ◌⊎◌, ℕ, List, [], ◌∷◌, ⊤, IsSome, Option, None, Some, codes, false, map, option_and_then, string_bytes, true}
+use Rattle.std.specs.Prelude.{◌≡◌, ◌≢◌, ◌⊎◌, ℕ, List, [], ◌∷◌, ⊤, IsSome, Option, None, Some, codes, false, map, option_and_then, string_bytes, true}
 use Rattle.clap.specs.Words.{Row, Text, all_of, fault_of, first_of, subcommand_of}
 pub use Rattle.cli.specs.Program.{command_named, program}
 use Rattle.cli.specs.Given.{is_given}
-use Rattle.cli.specs.Matched.{AsksVersion}
+use Rattle.cli.specs.Matched.{AsksHelp, AsksVersion}
 use Rattle.interleave.specs.Line.{number_within}
 use Rattle.model.specs.declared.limits.TheConstants.{MAX_THREADS}
 use Rattle.report.specs.Rule.{IsRuleWord}
@@ -19,7 +19,7 @@ use Rattle.cli.specs.declared.choices.Format.TheVariants.{Text as AsText, Json, 
 use Rattle.cli.specs.declared.job.FileNames.{FileNames}
 use Rattle.cli.specs.declared.job.Form.TheVariants.{Lines as InLines}
 use Rattle.cli.specs.declared.job.Job.{Job}
-use Rattle.cli.specs.declared.job.Job.TheVariants.{Page as OfPage, OnPaths, Log, Test, Rewrite, Apply, OnSet, OnRun, Host, Keep}
+use Rattle.cli.specs.declared.job.Job.TheVariants.{Page as OfPage, Help, OnPaths, Log, Test, Rewrite, Apply, OnSet, OnRun, Host, Keep}
 use Rattle.cli.specs.declared.job.Judging.{Judging}
 use Rattle.cli.specs.declared.job.Judging.TheVariants.{Check, CheckJson, Explain, ExplainJson}
 use Rattle.cli.specs.declared.job.Page.{Page}
@@ -120,7 +120,7 @@ NamesOf ToMend rows (OnSet set (Mend tries form)) =
     Has (codes "FILE") rows set.now × (tries_of rows ≡ Some tries) × (wanted_of rows ≡ Some None)
     × (form_of rows ≡ Some form)
 NamesOf ToMend rows (Apply set tries wanted) =
-    Has (codes "FILE") rows set.now × (tries_of rows ≡ Some tries)
+    Has (codes "FILE") rows set.now × (set.now ≢ codes "-") × (tries_of rows ≡ Some tries)
     × (wanted_of rows ≡ Some (Some wanted)) × (form_of rows ≡ Some InLines)
 NamesOf ToTrace rows (OnRun names way) =
     HasBoth (codes "SCHEDULE") rows names
@@ -166,7 +166,8 @@ NamesOf ToHost rows (Keep keeping) =
     × (form_of rows ≡ Some InLines) × Has (codes "OUT") rows keeping.output.now
 NamesOf ToStats rows (OnSet set (Stats form)) =
     Has (codes "FILE") rows set.now × (form_of rows ≡ Some form)
-NamesOf ToList rows (OnSet set Listing) = Has (codes "FILE") rows set.now
+NamesOf ToList rows (OnSet set (Listing form)) =
+    Has (codes "FILE") rows set.now × (form_of rows ≡ Some form)
 NamesOf ToRewrite rows (Rewrite set output) =
     Has (codes "FILE") rows set.now × Has (codes "OUT") rows output.now
 NamesOf ToVersion rows (OfPage Version) = ⊤
@@ -187,9 +188,15 @@ pub record IsTakenAs (words : List Text) (job : Job) : Type 0 where
   pub taken : fault_of program words ≡ []
   pub named : Names (subcommand_of program words) job
 
+-- words ask for the program's version, or for help
+abbrev pub IsAsked : List Text → Job → Type 0
+IsAsked words (OfPage Version) = AsksVersion words
+IsAsked words (Help text) = AsksHelp words
+IsAsked words job = ⊥
+
 -- words name a job
 abbrev pub NamesJob : List Text → Job → Type 0
-NamesJob words job = IsTakenAs words job ⊎ ((job ≡ OfPage Version) × AsksVersion words)
+NamesJob words job = IsTakenAs words job ⊎ IsAsked words job
 
 -- how the program is used, where its words can't be had
 abbrev pub usage : List ℕ

@@ -158,7 +158,7 @@ commands =
     ∷ (Hunt, hunt_command)
     ∷ (Host, host_command)
     ∷ (Stats, set_command (codes "stats") (format_option ∷ []))
-    ∷ (Listing, set_command (codes "list") [])
+    ∷ (Listing, set_command (codes "list") (format_option ∷ []))
     ∷ (Rewrite, set_command (codes "rewrite") (file_argument (codes "OUT") ∷ []))
     ∷ (Version, command (codes "version") [])
     ∷ []

@@ -37,6 +37,9 @@ use thiserror::Error;
 pub enum Job<'a> {
     /// A page that stands in the program.
     Page(Page),
+    /// `help`, `help COMMAND`, `--help` or `-h`: the text that tells how the program or a command of
+    /// it is used
+    Help(String),
     /// Driver sets are judged, with `--jobs N` by so many jobs at once, and else by one for each
     /// processor.
     OnPaths(Judged<'a>),
@@ -171,8 +174,8 @@ pub enum Report {
 pub enum Task {
     /// `mend FILE [--tries N] [--format json]`
     Mend(u64, Form),
-    /// `list FILE`
-    List,
+    /// `list FILE [--format json]`
+    List(Form),
     /// `stats FILE [--format json]`
     Stats(Form),
     /// `hunt FILE [--threads N] [--packets N] [--states N] [--events N] [--argument N] [--stuck]
@@ -244,7 +247,7 @@ impl Workers {
 /// Why there is no job.
 #[derive(Debug, Drop, Error)]
 pub enum JobFault {
-    /// The words name none, or ask for help: the text for the user.
+    /// The words name none: the text for the user.
     #[error("{0}")]
     Usage(String),
     /// A growth was refused.
@@ -290,7 +293,7 @@ impl<'a> Job<'a> {
     ///
     /// # Errors
     ///
-    /// `Usage` where they name none or ask for help, `Memory` when memory runs out.
+    /// `Usage` where they name none, `Memory` when memory runs out.
     pub fn of<S: AsStr>(alloc: Global, words: &'a [S]) -> Result<Job<'a>, JobFault>
         ensures task { IfOk result (NamesJob (map S.text words.entry.now)) }
         ensures refused { IfErr result (λ fault.
@@ -304,6 +307,7 @@ impl<'a> Job<'a> {
                 None => Err(JobFault::Usage(unnamed(alloc, &matches)?)),
             },
             Err(Unmatched::Version) => Ok(Job::Page(Page::Version)),
+            Err(Unmatched::Help(text)) => Ok(Job::Help(text)),
             Err(Unmatched::Usage(text)) => Err(JobFault::Usage(text)),
             Err(Unmatched::Memory) => Err(JobFault::Memory),
         }

@@ -215,14 +215,16 @@ fn values<'a>(
 }
 
 /// Mends are looked for, or one of them is applied.
+/// Mends are told, or one of them is applied: not to the standard input, which no text can be
+/// written to.
 fn mend_named<'a>(matches: &ArgMatches<'a>) -> Option<Job<'a>>
     ensures { IsNamed result (NamesOf Subcommand.Mend (given_by matches.now)) }
 {
     let set = argument(matches, "FILE")?;
     let tries = tries(matches)?;
     match (wanted(matches)?, form(matches)?) {
-        (Some(wanted), Form::Lines) => Some(Job::Apply { set, tries, wanted }),
-        (Some(_), Form::Json) => None,
+        (Some(wanted), Form::Lines) if set != "-" => Some(Job::Apply { set, tries, wanted }),
+        (Some(_), Form::Lines | Form::Json) => None,
         (None, form) => Some(Job::OnSet {
             set,
             task: Task::Mend(tries, form),
@@ -363,10 +365,8 @@ fn list_named<'a>(matches: &ArgMatches<'a>) -> Option<Job<'a>>
     ensures { IsNamed result (NamesOf Subcommand.List (given_by matches.now)) }
 {
     let set = argument(matches, "FILE")?;
-    Some(Job::OnSet {
-        set,
-        task: Task::List,
-    })
+    let task = Task::List(form(matches)?);
+    Some(Job::OnSet { set, task })
 }
 
 fn rewrite_named<'a>(matches: &ArgMatches<'a>) -> Option<Job<'a>>

@@ -1,8 +1,8 @@
 //! The matches of a command line.
 
-ghost use Rattle.std.specs.Prelude.{◌≡◌, ◌≢◌, map, IfErr, IfOk};
+ghost use Rattle.std.specs.Prelude.{◌≡◌, map, IfErr, IfOk};
 ghost use Rattle.clap.specs.Words.{kind_of, subcommand_rows_of};
-ghost use Rattle.cli.specs.Matched.{IsMatched, IsUnmatched};
+ghost use Rattle.cli.specs.Matched.{IsMatched, IsMetBy, IsUnmatched};
 
 use crate::program::program;
 use clap::ArgMatches;
@@ -15,7 +15,9 @@ use std::convert::AsStr;
 pub(crate) enum Unmatched {
     /// They ask which program this is.
     Version,
-    /// They are wrong, or ask for help: the text for the user.
+    /// They ask for help: its text.
+    Help(String),
+    /// They are wrong: the text for the user.
     Usage(String),
     /// A growth was refused.
     Memory,
@@ -35,8 +37,8 @@ impl From<AllocError> for Unmatched {
 ///
 /// # Errors
 ///
-/// `Version` where they ask for it, `Usage` where they are wrong or ask for help, `Memory` when
-/// memory runs out.
+/// `Version` or `Help` where they ask for it, `Usage` where they are wrong, `Memory` when memory runs
+/// out.
 pub(crate) fn matches_of<'a, S: AsStr>(
     alloc: Global,
     words: &'a [S],
@@ -48,21 +50,22 @@ pub(crate) fn matches_of<'a, S: AsStr>(
     let mut program = program(alloc)?;
     match program.try_get_matches_from_mut(words) {
         Ok(matches) => Ok(matches),
-        Err(error) if error.kind() == ErrorKind::DisplayVersion => Err(Unmatched::Version),
-        Err(error) => Err(refused(alloc, &error)),
+        Err(error) => Err(unmatched_by(alloc, &error)),
     }
 }
 
-/// What a refused command line is answered with.
-fn refused(alloc: Global, error: &clap::Error) -> Unmatched
-    ensures memory { kind_of error.now ≡ ErrorKind.OutOfMemory → result ≡ Unmatched.Memory }
-    ensures other { result ≢ Unmatched.Version }
+/// Why words have no matches that meet with an error.
+fn unmatched_by(alloc: Global, error: &clap::Error) -> Unmatched
+    ensures { IsMetBy (kind_of error.now) result }
 {
-    if error.kind() == ErrorKind::OutOfMemory {
-        return Unmatched::Memory;
-    }
-    match error.to_string(alloc) {
-        Ok(text) => Unmatched::Usage(text),
-        Err(_) => Unmatched::Memory,
+    let kind = error.kind();
+    match kind {
+        ErrorKind::DisplayVersion => Unmatched::Version,
+        ErrorKind::OutOfMemory => Unmatched::Memory,
+        _ => match error.to_string(alloc) {
+            Ok(text) if kind == ErrorKind::DisplayHelp => Unmatched::Help(text),
+            Ok(text) => Unmatched::Usage(text),
+            Err(_) => Unmatched::Memory,
+        },
     }
 }

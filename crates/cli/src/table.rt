@@ -308,7 +308,7 @@ pub(crate) const COMMANDS: [Entry<'static>; 14] = [
         name: "list",
         about: "Writes a driver set as a text",
         usage: None,
-        arguments: &[SET],
+        arguments: &[SET, FORMAT],
     },
     Entry {
         command: Subcommand::Rewrite,

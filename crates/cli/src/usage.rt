@@ -1,6 +1,7 @@
 //! What is told of words that the command line takes, and that name no job.
 
 use crate::choices::{answer_format, coloring, form, verdict_format};
+use crate::job::Form;
 use crate::matches::{argument, is_given};
 use crate::program::{NAME, command_of};
 use crate::table::{COMMANDS, Entry, Subcommand, entry_named};
@@ -33,6 +34,8 @@ enum Misfit<'a> {
     Color,
     /// Two options don't go together.
     Conflict(&'static str, &'static str),
+    /// A mend is to be written to the standard input.
+    FromInput,
     /// `explain` isn't told what to explain.
     Unexplained,
     /// It is told to explain a rule that there isn't.
@@ -79,7 +82,9 @@ fn misfit_of<'a>(command: Subcommand, matches: &ArgMatches<'a>) -> Misfit<'a> {
         Subcommand::Explain if verdict_format(matches).is_some() => unexplained(matches),
         Subcommand::Check | Subcommand::Explain => Misfit::Format(VERDICTS),
         Subcommand::Tell if answer_format(matches).is_some() => untold(matches),
-        Subcommand::Trace | Subcommand::Tell | Subcommand::Stats => Misfit::Format(ANSWERS),
+        Subcommand::Trace | Subcommand::Tell | Subcommand::Stats | Subcommand::List => {
+            Misfit::Format(ANSWERS)
+        }
         Subcommand::Draw => Misfit::Format(FIGURES),
         Subcommand::Test => Misfit::Format(REPORTS),
         Subcommand::Hunt if is_given(matches, "exact") && is_given(matches, "stuck") => {
@@ -88,6 +93,7 @@ fn misfit_of<'a>(command: Subcommand, matches: &ArgMatches<'a>) -> Misfit<'a> {
         Subcommand::Host | Subcommand::Hunt | Subcommand::Mend if form(matches).is_none() => {
             Misfit::Format(ANSWERS)
         }
+        Subcommand::Mend if is_from_input(matches) => Misfit::FromInput,
         Subcommand::Hunt if is_given(matches, "scenario") => {
             Misfit::Conflict("--scenario", "--format json")
         }
@@ -101,6 +107,14 @@ fn misfit_of<'a>(command: Subcommand, matches: &ArgMatches<'a>) -> Misfit<'a> {
             Misfit::Conflict("--history <OUT>", "--format json")
         }
         _ => Misfit::Other,
+    }
+}
+
+/// Whether a set is read from the standard input, of which mends are told as text.
+fn is_from_input(matches: &ArgMatches<'_>) -> bool {
+    match (argument(matches, "FILE"), form(matches)) {
+        (Some("-"), Some(Form::Lines)) => true,
+        _ => false,
     }
 }
 
@@ -147,6 +161,11 @@ fn message(
         Misfit::NoRule(word) => {
             add_quoted(&mut words, "there is no rule '", word, "': the rules are\n");
             add_rules(alloc, &mut words);
+        }
+        Misfit::FromInput => {
+            words.add(
+                "no mend is written to the standard input: name a file, or leave out '--apply'",
+            );
         }
         Misfit::RuleBeside => {
             words.add("'--rule' goes with no PATH, no '--all', no JSON and no SARIF");

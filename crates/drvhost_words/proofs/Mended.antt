@@ -8,7 +8,7 @@ use Rattle.drvhost_devices.specs.Ends.{Answers, Ends, OutOfMemory, ReadFailed, R
 use Rattle.drvhost_files.specs.Files.{IsWritten, Stores, blank}
 use Rattle.drvhost_files.proofs.Known.{holds_known}
 use Rattle.drvhost_many.proofs.Judged.{ends_rightly}
-use Rattle.answer_mends.specs.declared.apply.Asked.{Asked}
+use Rattle.answer_mends.specs.declared.apply.ApplyOptions.{ApplyOptions}
 use Rattle.answer_mends.specs.Apply.{IsApplyOf, IsApplyWith, LeavesFor, TakesMade}
 use Rattle.drvhost_words.specs.Program.{MendsFile, WritesMend}
 use Rattle.drvhost_words.proofs.Rewritten.{appends_as, has_part}
@@ -39,7 +39,7 @@ told_unopened name reads writes b n status told (ReadFailed r w s t out) = inl s
 told_unopened name reads writes b n status told (WriteFailed answer right r w s t out) = inl s
 told_unopened name reads writes b n status told (OutOfMemory r w s t out) = inr (inl s)
 
-module _ (asked : Asked) (known supply : Supply) (h : IsSuppliedAs known supply) where
+module _ (asked : ApplyOptions) (known supply : Supply) (h : IsSuppliedAs known supply) where
   -- what is right for a file is right for what is known of it
   with_known : (written : Option (List ℕ)) (answer : Answer)
       → IsApplyWith asked supply written answer → IsApplyWith asked known written answer
@@ -72,7 +72,7 @@ written_none (Bytes held) Unknown after part a same = absurd a
 written_none (Bytes held) Closed after part a same = inr (sym a, same)
 written_none (Bytes held) (Bytes there) after part a same = inr (sym a, same)
 
-module _ (asked : Asked) (name : List ℕ) (before after : List ℕ → Supply) (supply : Supply)
+module _ (asked : ApplyOptions) (name : List ℕ) (before after : List ℕ → Supply) (supply : Supply)
     (h : IsSuppliedAs (before name) supply) (old new status : ℕ)
     (shown_before shown_after b n : Option (List ℕ)) where
   -- a text was written of which the file has so much as was taken

@@ -6,12 +6,14 @@ use Rattle.std.specs.Global.{Global, Vec}
 use Rattle.std.specs.declared.io.ErrorKind.{ErrorKind}
 use Rattle.std.specs.declared.io.ErrorKind.TheVariants.{OutOfMemory}
 use Rattle.clap.specs.Words.{Text, subcommand_of, takes}
-use Rattle.drvhost_devices.specs.Answer.{Answer, IsRuleExplained, IsUnopened, IsVersion}
+use Rattle.drvhost_devices.specs.declared.fault.End.TheVariants.{Complete}
+use Rattle.drvhost_devices.specs.Answer.{Answer, IsRuleExplained, IsUnopened, IsVersion, ended}
 use Rattle.drvhost_devices.specs.Device.{Holds, MayBeClosed, Supply}
 use Rattle.drvhost_devices.specs.declared.verification.Verification.{Verification}
 use Rattle.drvhost_devices.specs.declared.verification.Verification.TheVariants.{Required}
 use Rattle.drvhost_devices.specs.Ends.{Ends, HoldsRun, IsCheckOf, IsListOf, IsRewriteOf, IsTraceOf}
 use Rattle.answer_hunts.specs.Find.{IsFindOf}
+use Rattle.answer.specs.Listing.{IsListJsonOf}
 use Rattle.answer.specs.declared.content.Content.{Content}
 use Rattle.answer.specs.declared.content.Content.TheVariants.{Whole, Unread, Unopened}
 use Rattle.answer.specs.declared.job.Job as job
@@ -20,9 +22,9 @@ use Rattle.answer_hunts.specs.declared.hunt.Way.{Way as Hunted}
 use Rattle.answer_hunts.specs.declared.hunt.Way.TheVariants.{Quick, Exact}
 use Rattle.answer_hunts.specs.Hunt.{IsHuntOfWay}
 use Rattle.answer_hunts.specs.Json.{IsHuntJsonOf}
-use Rattle.answer_mends.specs.declared.apply.Asked.{Asked as Applying}
+use Rattle.answer_mends.specs.declared.apply.ApplyOptions.{ApplyOptions}
 use Rattle.answer_mends.specs.Apply.{IsApplyOf, IsApplyWith}
-use Rattle.answer_mends.specs.declared.mend.Asked.{Asked}
+use Rattle.answer_mends.specs.declared.mend.MendOptions.{MendOptions}
 use Rattle.answer_mends.specs.Json.{IsMendJsonOf}
 use Rattle.answer_mends.specs.Mend.{IsMendOf}
 use Rattle.answer_scenarios.specs.Scenarios.{IsScheduleOf}
@@ -37,7 +39,7 @@ use Rattle.answer_views.specs.Told.{IsDrawOf, IsTellOf}
 use Rattle.cli.specs.declared.job.Form.{Form}
 use Rattle.cli.specs.declared.job.Form.TheVariants.{Lines, Json}
 use Rattle.cli.specs.declared.job.Job.{Job}
-use Rattle.cli.specs.declared.job.Job.TheVariants.{Page as OfPage, OnPaths, Log, Test, Rewrite, Apply, OnSet, OnRun, Host, Keep}
+use Rattle.cli.specs.declared.job.Job.TheVariants.{Page as OfPage, Help, OnPaths, Log, Test, Rewrite, Apply, OnSet, OnRun, Host, Keep}
 use Rattle.cli.specs.declared.job.Page.{Page}
 use Rattle.cli.specs.declared.job.Page.TheVariants.{Rule, LockOrder, Version}
 use Rattle.cli.specs.declared.job.Task.{Task}
@@ -125,9 +127,14 @@ IsHuntIn Lines way bounds name = IsHuntOfWay way bounds
 IsHuntIn Json way bounds name = IsHuntJsonOf way bounds name
 
 -- and what `mend` answers
-abbrev pub IsMendIn : Form → Asked → List ℕ → Supply → Answer → Type 0
+abbrev pub IsMendIn : Form → MendOptions → List ℕ → Supply → Answer → Type 0
 IsMendIn Lines asked name = IsMendOf asked
 IsMendIn Json asked name = IsMendJsonOf asked name
+
+-- and what `list` answers
+abbrev pub IsListBy : Form → List ℕ → Supply → Answer → Type 0
+IsListBy Lines name = IsListOf
+IsListBy Json name = IsListJsonOf name
 
 -- and what `stats` answers
 abbrev pub IsStatsBy : Form → List ℕ → Supply → Answer → Type 0
@@ -137,7 +144,7 @@ IsStatsBy Json name = IsStatsJsonOf name
 -- what a task with a set answers, by the name of its file and what this has
 abbrev pub IsTaskOf : Task → List ℕ → Supply → Answer → Type 0
 IsTaskOf (Mend tries form) name = IsMendIn form (record { tries = tries }) name
-IsTaskOf Listing name = IsListOf
+IsTaskOf (Listing form) name = IsListBy form name
 IsTaskOf (Hunt reach form) name = IsHuntIn form Quick reach name
 IsTaskOf (HuntExactly reach form) name = IsHuntIn form Exact reach name
 IsTaskOf (Find reach) name = IsFindOf Quick reach
@@ -150,10 +157,14 @@ IsPage (Rule rule) = IsRuleExplained rule
 IsPage LockOrder = IsLockOrderExplained
 IsPage Version = IsVersion
 
+-- the text of help
+abbrev pub IsHelp : List ℕ → Answer → Type 0
+IsHelp text answer = answer ≡ ended Complete text
+
 -- the form of what a task answers
 abbrev pub form_of_task : Task → Form
 form_of_task (Mend tries form) = form
-form_of_task Listing = Lines
+form_of_task (Listing form) = form
 form_of_task (Hunt reach form) = form
 form_of_task (HuntExactly reach form) = form
 form_of_task (Find reach) = Lines
@@ -184,7 +195,7 @@ IsRightOf its it name content answer =
     × its.right it (record { name = called; content = content }) answer
 
 -- what is right where a mend of the text of the file of a name is applied
-abbrev pub IsOfApply : Applying → (List ℕ → Supply) → List ℕ → Answer → Type 0
+abbrev pub IsOfApply : ApplyOptions → (List ℕ → Supply) → List ℕ → Answer → Type 0
 IsOfApply asked supply name answer =
     IsApplyOf asked (supply name) answer ⊎ (MayBeClosed (supply name) × IsUnopened name answer)
 
@@ -304,6 +315,8 @@ abbrev pub JobEnds : Surroundings → (Sought → List ℕ → Found → Type 0)
     → Option (List ℕ) → Option (List ℕ) → ℕ → List ℕ → Type 0
 JobEnds surroundings stands supply (OfPage page) opened reads writes before after status told =
     (opened ≡ 0) × Ends (IsPage page) reads writes before after status told
+JobEnds surroundings stands supply (Help text) opened reads writes before after status told =
+    (opened ≡ 0) × Ends (IsHelp (string_bytes text)) reads writes before after status told
 JobEnds surroundings stands supply (OnPaths judged) opened reads writes before after status told =
     PathsEnd stands supply judged.paths.items (settled_judging surroundings judged.judging)
     judged.jobs opened reads writes before after status told
@@ -395,7 +408,7 @@ pub record RewritesFile (set : Supply) (name : List ℕ) (before after : List �
 -- one was written, which is opened for the text alone that a mend makes of its own, if that has any
 -- bytes: it has that text, or a beginning of it where a write failed; and the others have what they
 -- had
-pub record WritesMend (asked : Applying) (name : List ℕ) (before after : List ℕ → Supply)
+pub record WritesMend (asked : ApplyOptions) (name : List ℕ) (before after : List ℕ → Supply)
     (old new : ℕ) (status : ℕ) : Type 0 where
   pub one : (new ≡ old) ⊎ (new ≡ old + 1)
   pub answer : Answer
@@ -410,7 +423,7 @@ pub record WritesMend (asked : Applying) (name : List ℕ) (before after : List 
 
 -- what a mend that is applied does to the file of a name: it is left by a fault, or where no text is
 -- written; else it has the text that the mend makes
-abbrev pub MendsFile : Applying → List ℕ → (List ℕ → Supply) → (List ℕ → Supply) → ℕ → ℕ → ℕ
+abbrev pub MendsFile : ApplyOptions → List ℕ → (List ℕ → Supply) → (List ℕ → Supply) → ℕ → ℕ → ℕ
     → Type 0
 MendsFile asked name before after old new status =
     (LeavesFiles before after old new × ((status ≡ 2) ⊎ (status ≡ 3)

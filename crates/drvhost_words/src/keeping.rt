@@ -11,7 +11,7 @@ ghost use Rattle.drvhost_words.specs.Unread.{IsNamedUnread, IsOneOf, SaysAround}
 
 use crate::returned::{close_both, keep_if_opened};
 use crate::unread::tell_which_unread;
-use answer_runs::host::Hosting;
+use answer_runs::host::HostConfig;
 use answer_runs::keeping::{self, host_keeping};
 use cli::job::Keeping;
 use drvhost_devices::device::{Sink, Source};
@@ -62,7 +62,7 @@ pub(crate) fn keep_files<F: Files, O: Sink, E: Sink, R: Threads + Wait + Sync>(
     let count = keeping.workers.count();
     let kept = keeping::Keeping {
         alloc,
-        hosting: Hosting {
+        hosting: HostConfig {
             runtime: rt,
             workers: count,
             gate: &Open,

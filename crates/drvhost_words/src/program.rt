@@ -3,7 +3,8 @@
 ghost use Rattle.std.specs.Prelude.{◌≡◌, ◌+◌, ◌<◌, ◌^◌, ℕ, List, Option};
 ghost use Rattle.std.specs.Prelude.{drop, map, string_bytes, IfOk};
 ghost use Rattle.drvhost_words.specs.Program.{EndsAtOnce, FileEnds, IsAnswerToLost, IsJobCount};
-ghost use Rattle.drvhost_words.specs.Program.{IsOfApply, IsPage, IsQuietly, JobEnds, JobStores};
+ghost use Rattle.drvhost_words.specs.Program.{IsHelp, IsOfApply, IsPage, IsQuietly, JobEnds};
+ghost use Rattle.drvhost_words.specs.Program.{JobStores};
 ghost use Rattle.drvhost_words.specs.Program.{MendsFile, PathsEnd, ProgramEnds, ProgramStores};
 ghost use Rattle.drvhost_words.specs.Program.{RewritesFile, WordsEnd, WordsStore};
 ghost use Rattle.drvhost_words.specs.Program.{asked_by, settled_judging};
@@ -12,11 +13,10 @@ ghost use Rattle.drvhost_words.specs.Devices.{CountedOver};
 ghost use Rattle.drvhost_tests.specs.Told.{asked_of};
 ghost use Rattle.drvhost_words.specs.Unread.{IsNamedUnread, SaysMore};
 ghost use Rattle.drvhost_devices.specs.Device.{CanCount, Says};
-ghost use Rattle.drvhost_devices.specs.Ends.{Answers, IsCheckOf, IsRewriteOf};
+ghost use Rattle.drvhost_devices.specs.Ends.{Answers, AnswersOver, IsCheckOf, IsRewriteOf};
 ghost use Rattle.drvhost_devices.specs.Ready.{CanWrite};
 ghost use Rattle.drvhost_files.specs.Kept.{OnlyReads};
 ghost use Rattle.drvhost_files.specs.Ready.{CanCreate, CanOpen, CanOpenMany};
-ghost use Rattle.answer_explain.specs.Devices.{AnswersOver};
 
 use crate::coloring::{settled_judging, settled_way};
 use crate::keeping::keep_files;
@@ -24,6 +24,7 @@ use crate::running::{Running, run_files};
 use crate::serving::host_files;
 use crate::task::{Tasked, answer_file};
 use crate::unread::tell_if_unread;
+use answer::as_text::ended;
 use answer::deliver::write_answer;
 use answer_explain::rewriting::rewrite;
 use answer_explain::rule::{explain_lock_order, explain_rule};
@@ -32,7 +33,7 @@ use answer_logs::logging::{Log, log_paths};
 use answer_mends::apply::{self, apply};
 use cli::job::{Job, JobFault, Judged, Judging, Page, Testing, refuse_unknown_words, refuse_words};
 use drvhost_devices::device::Sink;
-use drvhost_devices::fault::no_memory;
+use drvhost_devices::fault::{End, no_memory};
 use drvhost_devices::jobs::MAX_JOBS;
 use drvhost_devices::surroundings::Surroundings;
 use drvhost_devices::told::Told;
@@ -163,6 +164,7 @@ fn perform<F: JudgedFiles, O: Sink, E: Sink, R: Threads + Wait + Sync + Progress
     let alloc = setting.alloc;
     match job {
         Job::Page(page) => write_answer(answer_page(alloc, *page), out, err),
+        Job::Help(text) => write_answer(answer_help(alloc, text), out, err),
         Job::OnPaths(judged) => judge_paths(rt, setting, judged, files, out, err),
         Job::Log { paths, logging } => {
             let log = Log {
@@ -178,7 +180,7 @@ fn perform<F: JudgedFiles, O: Sink, E: Sink, R: Threads + Wait + Sync + Progress
         }
         Job::Rewrite { set, output } => rewrite_file(alloc, set, output, files, err),
         Job::Apply { set, tries, wanted } => {
-            let asked = apply::Asked {
+            let asked = apply::ApplyOptions {
                 tries: *tries,
                 wanted: *wanted,
             };
@@ -224,6 +226,15 @@ fn answer_page(alloc: Global, page: Page) -> Result<Told, AllocError>
         Page::LockOrder => explain_lock_order(alloc),
         Page::Version => version(alloc),
     }
+}
+
+/// The text of help that words ask for.
+fn answer_help(alloc: Global, text: &String) -> Result<Told, AllocError>
+    ensures { IfOk result (IsHelp (string_bytes text.now)) }
+{
+    let mut page = Vec::new(alloc);
+    page.extend_from_slice(text.as_bytes())?;
+    Ok(ended(alloc, End::Complete, page))
 }
 
 /// Judges the sets that paths stand for: that of one file alone as it is, and others each told with
@@ -365,7 +376,7 @@ fn rewrite_file<F: Files, E: Sink>(
 #[derive(Clone, Copy)]
 struct Mending<'n> {
     set: &'n str,
-    asked: apply::Asked,
+    asked: apply::ApplyOptions,
 }
 
 /// Applies a mend to the text of a file, which is written anew once the text that the mend makes

@@ -2,11 +2,10 @@
 
 ghost use Rattle.std.specs.Prelude.{◌≡◌, ◌+◌, ◌<◌, ◌^◌, ◌⊎◌, ℕ};
 ghost use Rattle.drvhost_devices.specs.Device.{CanCount};
-ghost use Rattle.drvhost_devices.specs.Ends.{HoldsRun};
+ghost use Rattle.drvhost_devices.specs.Ends.{AnswersBy, AnswersOver, HoldsRun};
 ghost use Rattle.drvhost_devices.specs.Ready.{CanAnswer, CanWrite};
 ghost use Rattle.drvhost_files.specs.Kept.{OnlyReads};
 ghost use Rattle.drvhost_files.specs.Ready.{CanOpen};
-ghost use Rattle.answer_explain.specs.Devices.{AnswersBy, AnswersOver};
 ghost use Rattle.drvhost_words.specs.Program.{IsRunBy, OpensToTrace, verification_of};
 ghost use Rattle.drvhost_words.specs.Unread.{IsNamedUnread, IsOneOf, SaysMore};
 
@@ -16,7 +15,7 @@ use crate::unread::tell_which_unread;
 use answer::as_json::Json;
 use answer::as_text::Text;
 use answer::run::{ToRun, deliver_run};
-use answer_runs::trace::{Asked, trace, trace_json};
+use answer_runs::trace::{TraceOptions, trace, trace_json};
 use answer_scenarios::schedule::schedule;
 use answer_views::draw::Drawn;
 use answer_views::in_json::InJson;
@@ -90,7 +89,7 @@ fn run<S: Source, P: Source, O: Sink, E: Sink>(
     match running.way {
         Way::Trace(verification) => trace(alloc, set, input, verification, out, err),
         Way::TraceJson(verification) => {
-            let asked = Asked {
+            let asked = TraceOptions {
                 set: running.names.set,
                 schedule: running.names.input,
                 verification,

@@ -2,23 +2,22 @@
 
 ghost use Rattle.std.specs.Prelude.{◌≡◌, ◌+◌, ◌<◌, ◌≤◌, ◌^◌, ◌⊎◌, ℕ};
 ghost use Rattle.drvhost_devices.specs.Device.{CanCount};
-ghost use Rattle.drvhost_devices.specs.Ends.{HoldsRun};
+ghost use Rattle.drvhost_devices.specs.Ends.{AnswersBy, HoldsRun};
 ghost use Rattle.drvhost_devices.specs.Ready.{CanAnswer, CanWrite};
 ghost use Rattle.drvhost_files.specs.Kept.{OnlyReads};
 ghost use Rattle.drvhost_files.specs.Ready.{CanOpen};
-ghost use Rattle.answer_explain.specs.Devices.{AnswersBy};
 ghost use Rattle.answer_runs.specs.Readiness.{SaysWarned};
 ghost use Rattle.drvhost_words.specs.Program.{AreWarningsBy, IsServedBy, OpensToTrace};
 ghost use Rattle.drvhost_words.specs.Unread.{IsNamedUnread, IsOneOf, SaysAround};
 
 use crate::returned::close_both;
 use crate::unread::tell_which_unread;
-use answer_runs::host::{Hosting, host};
+use answer_runs::host::{HostConfig, host};
 use cli::job::{Form, Serving, Workers};
 use drvhost_devices::device::{Sink, Source};
 use drvhost_devices::verification::Verification;
 use drvhost_files::files::{Files, Later};
-use drvhost_told::host::{Asked, host_json};
+use drvhost_told::host::{HostOptions, host_json};
 use std::alloc::Global;
 use std::sync::Wait;
 use std::thread::Threads;
@@ -102,7 +101,7 @@ fn serve<S: Source, P: Source, O: Sink, E: Sink, R: Threads + Wait + Sync>(
         (S.failures set.old + P.failures script.old) (S.failures set.new + P.failures script.new)
         out.old out.new err.old err.new result }
 {
-    let hosting = Hosting {
+    let hosting = HostConfig {
         runtime: orders.runtime,
         workers: orders.workers.count(),
         gate: &Open,
@@ -110,7 +109,7 @@ fn serve<S: Source, P: Source, O: Sink, E: Sink, R: Threads + Wait + Sync>(
     match orders.form {
         Form::Lines => host(alloc, set, script, &hosting, out, err),
         Form::Json => {
-            let asked = Asked {
+            let asked = HostOptions {
                 set: orders.set,
                 script: orders.script,
                 hosting,

@@ -4,10 +4,11 @@ ghost use Rattle.std.specs.Prelude.{◌≡◌, ◌+◌, ◌<◌, ◌^◌, IfOk};
 ghost use Rattle.drvhost_devices.specs.Ready.{CanWrite};
 ghost use Rattle.drvhost_files.specs.Kept.{OnlyReads};
 ghost use Rattle.drvhost_files.specs.Ready.{CanOpen};
-ghost use Rattle.answer_explain.specs.Devices.{AnswersBy};
+ghost use Rattle.drvhost_devices.specs.Ends.{AnswersBy};
 ghost use Rattle.answer_hunts.specs.Find.{IsFindOf};
 ghost use Rattle.drvhost_many.specs.One.{IsFrom};
-ghost use Rattle.drvhost_words.specs.Program.{IsHuntIn, IsMendIn, IsOfFile, IsRightOf, IsStatsBy};
+ghost use Rattle.drvhost_words.specs.Program.{IsHuntIn, IsListBy, IsMendIn, IsOfFile};
+ghost use Rattle.drvhost_words.specs.Program.{IsRightOf, IsStatsBy};
 ghost use Rattle.drvhost_words.specs.Unread.{IsNamedUnread, SaysMore};
 
 use crate::unread::tell_if_unread;
@@ -22,7 +23,7 @@ use answer::list::Listing;
 use answer_hunts::find::Finding;
 use answer_hunts::hunt::{Hunting, Way};
 use answer_mends::as_json::MendsJson;
-use answer_mends::mend::{Asked, MendsText};
+use answer_mends::mend::{MendOptions, MendsText};
 use answer_stats::stats::Statistics;
 use cli::job::{Form, Task};
 use drvhost_devices::device::Sink;
@@ -81,14 +82,8 @@ impl<P: Progress> Job for Tasked<'_, P> {
 
     fn answer(&self, alloc: Global, set: &Named<'_>) -> Result<Told, AllocError> {
         match self.task {
-            Task::Mend(tries, form) => mend(form, Asked { tries }, alloc, set),
-            Task::List => {
-                let listed = Unjudged {
-                    job: Listing,
-                    form: Text,
-                };
-                listed.answer(alloc, set)
-            }
+            Task::Mend(tries, form) => mend(form, MendOptions { tries }, alloc, set),
+            Task::List(form) => list(form, alloc, set),
             Task::Hunt(reach, form) => self.hunt(Way::Quick, reach, form, alloc, set),
             Task::HuntExactly(reach, form) => self.hunt(Way::Exact, reach, form, alloc, set),
             Task::Find(reach) => self.find(Way::Quick, reach, alloc, set),
@@ -147,7 +142,7 @@ impl<P: Progress> Tasked<'_, P> {
 }
 
 /// Mends of a set, in a form.
-fn mend(form: Form, asked: Asked, alloc: Global, set: &Named<'_>) -> Result<Told, AllocError>
+fn mend(form: Form, asked: MendOptions, alloc: Global, set: &Named<'_>) -> Result<Told, AllocError>
     ensures { IfOk result (IsFrom form (IsMendIn form asked set.now.name.now)
         set.now.name.now set.now.content) }
 {
@@ -161,6 +156,18 @@ fn mend(form: Form, asked: Asked, alloc: Global, set: &Named<'_>) -> Result<Told
             let form = MendsJson { asked };
             Judged { job, form }.answer(alloc, set)
         }
+    }
+}
+
+/// The listing of a set, in a form.
+fn list(form: Form, alloc: Global, set: &Named<'_>) -> Result<Told, AllocError>
+    ensures { IfOk result (IsFrom form (IsListBy form set.now.name.now)
+        set.now.name.now set.now.content) }
+{
+    let job = Listing;
+    match form {
+        Form::Lines => Unjudged { job, form: Text }.answer(alloc, set),
+        Form::Json => Unjudged { job, form: Json }.answer(alloc, set),
     }
 }
 

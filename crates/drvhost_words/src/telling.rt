@@ -2,10 +2,9 @@
 
 ghost use Rattle.std.specs.Prelude.{◌≡◌, ◌+◌, ◌⊎◌, IfErr, IfOk};
 ghost use Rattle.drvhost_devices.specs.Device.{CanCount};
-ghost use Rattle.drvhost_devices.specs.Ends.{HoldsRun};
+ghost use Rattle.drvhost_devices.specs.Ends.{AnswersOver, HoldsRun};
 ghost use Rattle.drvhost_devices.specs.Fault.{reads_failed};
 ghost use Rattle.drvhost_devices.specs.Ready.{CanAnswer};
-ghost use Rattle.answer_explain.specs.Devices.{AnswersOver};
 ghost use Rattle.drvhost_many.specs.Painted.{IsShown};
 ghost use Rattle.answer_views.specs.Told.{IsTellOf};
 

@@ -1,6 +1,6 @@
-use Rattle.std.proofs.Common.{◌≡◌, Ok, arith, refl}
+use Rattle.std.proofs.Common.{◌≡◌, Ok, arith, refl, string_bytes}
 use Rattle.answer.proofs.Delivering.{answers_rightly, found}
-use Rattle.drvhost_words.specs.Program.{IsPage, IsTaskFrom}
+use Rattle.drvhost_words.specs.Program.{IsHelp, IsPage, IsTaskFrom}
 use Rattle.drvhost_words.proofs.Tasks.{work_ends}
 use Rattle.drvhost_words.proofs.Ending.{counted_alone, counted_beside, counted_telling, counted_warned}
 use Rattle.drvhost_words.proofs.program.perform.Goals as goal
@@ -17,6 +17,19 @@ returns-in-Page-clause-answers g c =
 
 pub returns-in-Page-clause-stores : goal.returns-in-Page-clause-stores
 returns-in-Page-clause-stores g c = rw c.in-Page.is (record { supply = refl; none = refl })
+
+pub returns-in-Help-clause-answers : goal.returns-in-Help-clause-answers
+returns-in-Help-clause-answers g c =
+    rw c.in-Help.is
+    (counted_beside _ _ _ _ _ _ _ _ _ _ _ _ _
+    (counted_alone _ (λ n. n ≡ 0) 0 _ _ _ _ _ _ _ _ _ _ refl (omega arith)
+    (answers_rightly (λ told. c.answer_help.result ≡ Ok told) (IsHelp (string_bytes c.in-Help.text))
+    (g.F.Files.failures c.args.files.now) _ _ _ _ _ _ _ _ _
+    (c.write_answer-in-Help.ensures (g.F.Files.failures c.args.files.now))
+    (λ told is. found _ c.answer_help.result told c.answer_help.ensures is) (omega arith))) refl)
+
+pub returns-in-Help-clause-stores : goal.returns-in-Help-clause-stores
+returns-in-Help-clause-stores g c = rw c.in-Help.is (record { supply = refl; none = refl })
 
 pub returns-in-OnPaths-clause-answers : goal.returns-in-OnPaths-clause-answers
 returns-in-OnPaths-clause-answers g c =
