@@ -21,7 +21,7 @@ struct Place {
 
 /// What comes of an event that is tried in a world.
 #[derive(Clone, Copy)]
-enum Outcome {
+pub(crate) enum Outcome {
     /// Nothing has changed.
     Stays,
     /// A world in which nothing is amiss.
@@ -100,7 +100,7 @@ fn come_back(
 }
 
 /// What comes of an event in a place to which a run has come.
-fn attempt(run: &mut Rehearsal, event: &Event) -> Result<Outcome, AllocError> {
+pub(crate) fn attempt(run: &mut Rehearsal, event: &Event) -> Result<Outcome, AllocError> {
     let reply = run.apply(event)?;
     if says_unchanged(&reply) {
         return Ok(Outcome::Stays);

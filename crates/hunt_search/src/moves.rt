@@ -34,7 +34,7 @@ pub(crate) fn moves_of(
 }
 
 /// Whether a thread has no frames.
-fn is_idle(machine: &Checked, thread: u8) -> bool {
+pub(crate) fn is_idle(machine: &Checked, thread: u8) -> bool {
     match machine.threads().get(thread as usize) {
         Some(its) => its.is_idle(),
         None => true,
@@ -42,7 +42,7 @@ fn is_idle(machine: &Checked, thread: u8) -> bool {
 }
 
 /// The first of so many threads that is idle.
-fn first_idle(machine: &Checked, threads: u8) -> Option<u8> {
+pub(crate) fn first_idle(machine: &Checked, threads: u8) -> Option<u8> {
     for thread in 0..threads {
         if is_idle(machine, thread) {
             return Some(thread);
@@ -60,7 +60,7 @@ pub(crate) fn first_busy(machine: &Checked) -> Option<usize> {
 }
 
 /// How many devices there are.
-fn devices_of(machine: &Checked) -> u8 {
+pub(crate) fn devices_of(machine: &Checked) -> u8 {
     machine.set().devices().len().min(255) as u8
 }
 

@@ -8,6 +8,7 @@ ghost use Rattle.model.specs.Set.{Set};
 
 use crate::expanding::{expand, run_at};
 use crate::plan::Plan;
+use crate::random::short_run;
 use crate::worlds::Worlds;
 use driver_set::DriverSet;
 use hunt_facts::bounds::{Bounds, Goal};
@@ -38,15 +39,29 @@ pub enum Hunted {
     More { worlds: usize, events: usize },
 }
 
+/// So many worlds are gone through before runs are tried at random. Where these find one, no more
+/// are.
+const FEW_WORLDS: usize = 10_000;
+
 /// How a search for a run that ends amiss has ended.
-#[derive(Clone, Copy)]
+#[derive(Drop)]
 enum Searched {
     /// In the world of this number something is amiss behind this event.
     Amiss { number: usize, event: Event },
     /// All worlds were seen.
     All,
-    /// Nothing is amiss in runs of up to so many events.
-    More { events: usize },
+    /// Nothing is amiss in runs of up to so many events. The world of the next number comes next.
+    More { next: usize, events: usize },
+    /// Something is amiss behind these events, which were found at random.
+    Short { events: Vec<Event> },
+}
+
+/// The numbers of worlds that are gone through: from the next one up to the most that there are to
+/// be.
+#[derive(Clone, Copy)]
+struct Numbers {
+    next: usize,
+    most: usize,
 }
 
 /// Whether such an end is looked for.
@@ -61,8 +76,10 @@ pub fn is_wanted(goal: Goal, ending: &Ending) -> bool
 }
 
 /// Searches the worlds of a set within bounds, breadth first and in a fixed order, for a run that
-/// ends amiss. Where there is none, and all worlds were seen, a run that is stuck may be looked
-/// for. How far the search has come is told meanwhile.
+/// ends amiss, which is then a shortest one. After `FEW_WORLDS` of them runs are tried at random,
+/// and one that is found is answered as short as it was made; only where none is the search through
+/// the worlds goes on. Where there is none, and all worlds were seen, a run that is stuck may be
+/// looked for. How far the search has come is told meanwhile.
 ///
 /// # Errors
 ///
@@ -94,13 +111,14 @@ fn hunt_by<P: Progress>(
 {
     let searched = search(alloc, set, plan, worlds, progress)?;
     progress.clear();
-    match found(alloc, set, plan, worlds, searched)? {
+    match found(alloc, set, plan, worlds, &searched)? {
         Some(find) => Ok(Hunted::Found(find)),
-        None => Ok(none_found(worlds, searched)),
+        None => Ok(none_found(worlds, &searched)),
     }
 }
 
-/// Goes on from each world that was seen, in that order, until none is left or enough are.
+/// Goes on from each world that was seen, until none is left or enough are; and where these are
+/// many, tries runs at random between.
 fn search<P: Progress>(
     alloc: Global,
     set: &DriverSet,
@@ -108,24 +126,82 @@ fn search<P: Progress>(
     worlds: &mut Worlds,
     progress: &P,
 ) -> Result<Searched, AllocError> {
-    let bounds = plan.bounds();
     begin(alloc, set, plan, worlds)?;
-    for number in 0..bounds.worlds {
+    let most = plan.bounds().worlds;
+    let few = go_through(
+        alloc,
+        set,
+        plan,
+        worlds,
+        Numbers {
+            next: 0,
+            most: most.min(FEW_WORLDS),
+        },
+        progress,
+    )?;
+    match few {
+        Searched::More { next, events } if most > FEW_WORLDS && !is_far(plan.bounds(), events) => {
+            search_further(alloc, set, plan, worlds, next, progress)
+        }
+        _ => Ok(few),
+    }
+}
+
+/// Tries runs at random, and where none is found that ends amiss, goes on from the world of a
+/// number.
+fn search_further<P: Progress>(
+    alloc: Global,
+    set: &DriverSet,
+    plan: &Plan,
+    worlds: &mut Worlds,
+    next: usize,
+    progress: &P,
+) -> Result<Searched, AllocError> {
+    let events = short_run(alloc, set, plan)?;
+    if !events.is_empty() {
+        return Ok(Searched::Short { events });
+    }
+    go_through(
+        alloc,
+        set,
+        plan,
+        worlds,
+        Numbers {
+            next,
+            most: plan.bounds().worlds,
+        },
+        progress,
+    )
+}
+
+/// Goes on from each world of these numbers that was seen, in that order, while there are no more
+/// worlds than the last number.
+fn go_through<P: Progress>(
+    alloc: Global,
+    set: &DriverSet,
+    plan: &Plan,
+    worlds: &mut Worlds,
+    numbers: Numbers,
+    progress: &P,
+) -> Result<Searched, AllocError> {
+    let bounds = plan.bounds();
+    for number in numbers.next..numbers.most {
         if number >= worlds.len() {
             return Ok(Searched::All);
         }
         let events = worlds.depth(number);
-        if worlds.len() > bounds.worlds || is_far(bounds, events) {
-            return Ok(Searched::More { events });
+        if worlds.len() > numbers.most || is_far(bounds, events) {
+            let next = number;
+            return Ok(Searched::More { next, events });
         }
         tell_at(progress, number, worlds.len(), events);
         if let Some(event) = expand(alloc, set, plan, worlds, number)? {
             return Ok(Searched::Amiss { number, event });
         }
     }
-    Ok(Searched::More {
-        events: worlds.depth(bounds.worlds),
-    })
+    let next = numbers.most;
+    let events = worlds.depth(next);
+    Ok(Searched::More { next, events })
 }
 
 /// Adds the world of a run before its first event.
@@ -153,7 +229,7 @@ fn found(
     set: &DriverSet,
     plan: &Plan,
     worlds: &Worlds,
-    searched: Searched,
+    searched: &Searched,
 ) -> Result<Option<Find>, AllocError>
     ensures { IfOk result (λ found. IfSome found (IsFind set.now plan.now)) }
 {
@@ -168,9 +244,9 @@ fn found(
 fn events_found(
     alloc: Global,
     worlds: &Worlds,
-    searched: Searched,
+    searched: &Searched,
 ) -> Result<Vec<Event>, AllocError> {
-    match searched {
+    match *searched {
         Searched::Amiss { number, event } => {
             let mut events = worlds.path(alloc, number)?;
             events.push(event)?;
@@ -180,7 +256,8 @@ fn events_found(
             Some(number) => worlds.path(alloc, number),
             None => Ok(Vec::new(alloc)),
         },
-        Searched::More { events: _ } => Ok(Vec::new(alloc)),
+        Searched::More { .. } => Ok(Vec::new(alloc)),
+        Searched::Short { ref events } => Ok(Vec::from_slice(alloc, events.as_slice())?),
     }
 }
 
@@ -209,13 +286,13 @@ fn find_of(
 }
 
 /// What comes of a search that has found none.
-fn none_found(worlds: &Worlds, searched: Searched) -> Hunted
+fn none_found(worlds: &Worlds, searched: &Searched) -> Hunted
     ensures { (set : Set) (bounds : Bounds) → IsHunted set bounds result }
 {
     let worlds = worlds.len();
-    match searched {
+    match *searched {
         Searched::All => Hunted::All { worlds },
-        Searched::More { events } => Hunted::More { worlds, events },
-        Searched::Amiss { .. } => Hunted::More { worlds, events: 0 },
+        Searched::More { events, .. } => Hunted::More { worlds, events },
+        Searched::Amiss { .. } | Searched::Short { .. } => Hunted::More { worlds, events: 0 },
     }
 }

@@ -8,5 +8,5 @@ returns-in-Some g c =
     subst (λ (found : Option Find). IfSome found (IsFind c.args.set.now c.args.plan.now))
     c.in-Some.is c.in_ok-find.ensures
 
-pub returns-in-None : goal.returns-in-None
-returns-in-None g c = c.none_found.ensures c.args.set.now c.args.plan.now
+pub returns : goal.returns
+returns g c = c.none_found.ensures c.args.set.now c.args.plan.now
