@@ -5,7 +5,6 @@ use Rattle.std.specs.Global.{Global}
 use Rattle.std.specs.List.{All, AllZip, list_any, sum_by}
 use Rattle.std.proofs.lemmas.Bool.{or_cases}
 use Rattle.std.proofs.lemmas.List.Elements.{All-head, All-tail}
-use Rattle.std.proofs.lemmas.Slice.Zip.{AllZip-long}
 use Rattle.verifier.proofs.FirstRules.{neither}
 use Rattle.std.proofs.lemmas.List.Sums.{sum_by-cons}
 use Rattle.asm.specs.declared.fault.AsmFault.{AsmFault}
@@ -32,13 +31,11 @@ use Rattle.drvhost_files.specs.declared.reading.Contents.{Contents}
 use Rattle.drvhost_files.specs.declared.reading.Contents.TheVariants.{Whole, Unread, Unopened, Lacking}
 use Rattle.drvhost_files.specs.declared.reading.Held.{Held}
 use Rattle.drvhost_files.specs.Reading.{AreHeld, IsHeld, IsReadOf, Opens, held_reads, reads_of}
-use Rattle.drvhost_devices.specs.Told.{joined}
 use Rattle.drvhost_many.specs.All.{Counted}
-use Rattle.drvhost_many.specs.Held.{AreJoined}
 use Rattle.drvhost_many.proofs.Judged.{ends_rightly}
 use Rattle.answer_scenarios.specs.Scenarios.{IsOfScenario, IsOutcome, IsTested, names_in}
-use Rattle.drvhost_tests.specs.Reports.{framed, reported}
-use Rattle.drvhost_tests.specs.Tests.{AreAllTold, AreEntries, AreJudgedBy, AreOthers, AreTested, AreTestsOf, AreTold, AreToldBy, AreToldIf, Asked, Gathers, IsContentsTold, IsEntry, IsFaultOf, IsHeldTold, IsKept, IsKeptSo, IsOther, IsScenarioTold, IsTestOf, IsVerdictsIn, OneHasVerdicts, Tested, is_contents_of_verdict, is_held_of_verdict, marked}
+use Rattle.drvhost_tests.specs.Test.{Test}
+use Rattle.drvhost_tests.specs.Tests.{AreAllTold, AreEntries, AreJudgedBy, AreOthers, AreTested, AreTestsOf, AreTold, AreToldBy, AreToldIf, Asked, Gathers, IsContentsTold, IsFaultOf, IsHeldTold, IsKept, IsKeptSo, IsOther, IsScenarioTold, IsTestHeld, IsTestOf, IsVerdictsIn, OneHasVerdicts, Tested, is_contents_of_verdict, is_held_of_verdict, marked}
 
 -- what is told of a scenario that was read is told of its file
 contents_tested : (asked : Asked) (tested : Tested) (name : List ℕ) (supply : Supply)
@@ -63,23 +60,21 @@ held_tested asked tested supply name held answer h told =
 
 -- for several
 all_tested : (asked : Asked) (tested : Tested) (supply : List ℕ → Supply)
-    (names : List (String Global)) (files : List Held) (whole : Answer)
-    → AllZip (IsHeld false supply) names files → AreJoined (IsEntry asked tested) files whole
-    → AreTestsOf asked tested supply names (sum_by held_reads files) whole
-all_tested asked tested supply [] [] whole h is = (refl, is)
-all_tested asked tested supply [] (file ∷ files) whole h is = absurd h
-all_tested asked tested supply (name ∷ names) [] whole h is = absurd h
-all_tested asked tested supply (name ∷ names) (file ∷ files) whole (here, h) (entry, rest, (answer, told, same), more, is) = (
+    (names : List (String Global)) (files : List Held) (tests : List Test)
+    → AllZip (IsHeld false supply) names files → AllZip (IsTestHeld asked tested) files tests
+    → AreTestsOf asked tested supply names (sum_by held_reads files) tests
+all_tested asked tested supply [] [] [] h is = refl
+all_tested asked tested supply [] [] (test ∷ tests) h is = absurd is
+all_tested asked tested supply [] (file ∷ files) tests h is = absurd h
+all_tested asked tested supply (name ∷ names) [] tests h is = absurd h
+all_tested asked tested supply (name ∷ names) (file ∷ files) [] h is = absurd is
+all_tested asked tested supply (name ∷ names) (file ∷ files) (test ∷ tests) (here, h) ((named, told), more) = (
   held_reads file,
   sum_by held_reads files,
-  answer,
-  rest,
-  held_tested asked tested supply name file answer here told,
-  all_tested asked tested supply names files rest h more,
+  named ∙ here.name_is,
+  held_tested asked tested supply name file test.answer here told,
+  all_tested asked tested supply names files tests h more,
   sum_by-cons held_reads file files,
-  is
-      ∙ ap (λ (a : Answer). joined a rest)
-      (same ∙ ap (λ (n : List ℕ). reported asked.report n answer) here.name_is),
 )
 
 -- a scenario that was read expects nothing but a verdict, or more
@@ -137,13 +132,8 @@ entries_told : (asked : Asked) (tested : Tested) (supply : List ℕ → Supply)
     (names : List (String Global)) (files : List Held) (answer : Answer)
     → AllZip (IsHeld false supply) names files → AreEntries asked tested files answer
     → AreAllTold asked names supply tested (sum_by held_reads files) answer
-entries_told asked tested supply names files answer h (all, so, is) = (
-  all,
-  all_tested asked tested supply names files all h so,
-  is
-      ∙ ap (λ (k : ℕ). framed asked.report asked.set k all)
-      (AllZip-long (IsHeld false supply) names files h),
-)
+entries_told asked tested supply names files answer h (tests, so, is) =
+    (tests, all_tested asked tested supply names files tests h so, is)
 
 told_if : (asked : Asked) (tested : Tested) (supply : List ℕ → Supply)
     (names : List (String Global)) (files : List Held) (refusal : Refusal) (answer : Answer)

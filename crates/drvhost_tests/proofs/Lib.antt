@@ -1,2 +1,5 @@
+pub mod Adding
+pub mod Counting
+pub mod Ending
 pub mod Gathering
 pub mod Zips

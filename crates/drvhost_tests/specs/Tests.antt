@@ -2,7 +2,7 @@
 use Rattle.std.specs.Prelude.{ℕ, ⊤, ◌≡◌, ◌≢◌, ◌≤◌, ◌+◌, ◌++◌, ◌⊎◌, Bool, true, false, List, [], ◌∷◌, codes, length, IfOk, Option, None, Some, Result, Ok, Err, String, string_bytes}
 use Rattle.std.specs.Borrow.{Bor}
 use Rattle.std.specs.Global.{Global}
-use Rattle.std.specs.List.{All, list_any}
+use Rattle.std.specs.List.{All, AllZip, list_any}
 use Rattle.cli.specs.declared.job.Report.{Report}
 use Rattle.drvhost_devices.specs.Answer.{Answer, FileSays, ended, faulty}
 use Rattle.drvhost_devices.specs.Device.{Bytes, Holds, Supply}
@@ -17,8 +17,7 @@ use Rattle.drvhost_files.specs.declared.find.Found.{Found}
 use Rattle.drvhost_files.specs.declared.sought.Sought.{Sought}
 use Rattle.drvhost_files.specs.declared.sought.Sought.TheVariants.{Scenarios}
 use Rattle.drvhost_devices.specs.Told.{joined}
-use Rattle.drvhost_many.specs.All.{AreFound, nothing}
-use Rattle.drvhost_many.specs.Held.{AreJoined}
+use Rattle.drvhost_many.specs.All.{AreFound}
 use Rattle.drvhost_devices.specs.declared.manner.Detail.TheVariants.{Usual}
 use Rattle.drvhost_devices.specs.declared.manner.Manner.{Manner}
 use Rattle.drvhost_devices.specs.declared.manner.Strictness.TheVariants.{Lenient}
@@ -36,7 +35,8 @@ use Rattle.report.specs.Verdict.{refusal_line}
 use Rattle.scenario_names.specs.Names.{Named}
 use Rattle.scenario_steps.specs.Judging.{expect_verdict_alone}
 use Rattle.scenario_text.specs.Listing.{Listed, scenario_in}
-use Rattle.drvhost_tests.specs.Reports.{alone, framed, reported}
+use Rattle.drvhost_tests.specs.Reports.{alone, reported}
+use Rattle.drvhost_tests.specs.Test.{Test}
 
 -- a line that is told of the file of a name
 abbrev pub marked : List ℕ → List ℕ → List ℕ
@@ -145,21 +145,22 @@ abbrev pub IsHeldTold : Asked → Tested → Held → Answer → Type 0
 IsHeldTold asked tested held answer =
     IsContentsTold asked tested held.name.now held.contents answer
 
--- the same, as it is reported
-abbrev pub IsEntry : Asked → Tested → Held → Answer → Type 0
-IsEntry asked tested held entry =
-    (answer : Answer) × IsHeldTold asked tested held answer
-    × (entry ≡ reported asked.report held.name.now answer)
+-- and that is the test of it
+abbrev pub IsTestHeld : Asked → Tested → Held → Test → Type 0
+IsTestHeld asked tested held test =
+    (test.name ≡ held.name.now) × IsHeldTold asked tested held test.answer
 
--- and of files of these names, in order
-abbrev pub AreTestsOf : Asked → Tested → (List ℕ → Supply) → List (String Global) → ℕ → Answer
+-- the tests of files of these names, in order
+abbrev pub AreTestsOf : Asked → Tested → (List ℕ → Supply) → List (String Global) → ℕ → List Test
     → Type 0
-AreTestsOf asked tested supply [] reads whole = (reads ≡ 0) × (whole ≡ nothing)
-AreTestsOf asked tested supply (name ∷ names) reads whole =
-    (failed others : ℕ) × (answer rest : Answer)
-    × IsTestOf asked.verbosity tested (string_bytes name) (supply (string_bytes name)) failed answer
-    × AreTestsOf asked tested supply names others rest × (reads ≡ failed + others)
-    × (whole ≡ joined (reported asked.report (string_bytes name) answer) rest)
+AreTestsOf asked tested supply [] reads [] = reads ≡ 0
+AreTestsOf asked tested supply [] reads (test ∷ tests) = ⊥
+AreTestsOf asked tested supply (name ∷ names) reads [] = ⊥
+AreTestsOf asked tested supply (name ∷ names) reads (test ∷ tests) =
+    (failed others : ℕ) × (test.name ≡ string_bytes name)
+    × IsTestOf asked.verbosity tested (string_bytes name) (supply (string_bytes name)) failed
+    test.answer
+    × AreTestsOf asked tested supply names others tests × (reads ≡ failed + others)
 
 -- a file that was read has a scenario that expects nothing but a verdict
 abbrev pub is_contents_of_verdict : Named → Contents → Bool
@@ -208,8 +209,8 @@ AreOthers bytes supply (name ∷ names) reads =
 -- where it isn't run and none of them expects nothing but a verdict
 abbrev pub AreEntries : Asked → Tested → List Held → Answer → Type 0
 AreEntries asked tested held answer =
-    (all : Answer) × AreJoined (IsEntry asked tested) held all
-    × (answer ≡ framed asked.report asked.set (length held) all)
+    (tests : List Test) × AllZip (IsTestHeld asked tested) held tests
+    × (answer ≡ reported asked.report asked.set tests)
 
 abbrev pub AreToldIf : Bool → Asked → Tested → List Held → Refusal → Answer → Type 0
 AreToldIf true asked tested held refusal answer = AreEntries asked tested held answer
@@ -227,8 +228,8 @@ AreToldBy (Some refusal) asked tested held answer =
 abbrev pub AreAllTold : Asked → List (String Global) → (List ℕ → Supply) → Tested → ℕ → Answer
     → Type 0
 AreAllTold asked names supply tested reads answer =
-    (whole : Answer) × AreTestsOf asked tested supply names reads whole
-    × (answer ≡ framed asked.report asked.set (length names) whole)
+    (tests : List Test) × AreTestsOf asked tested supply names reads tests
+    × (answer ≡ reported asked.report asked.set tests)
 
 abbrev pub AreTold : Option Refusal → Asked → List (String Global) → (List ℕ → Supply) → Tested
     → ℕ → Answer → Type 0

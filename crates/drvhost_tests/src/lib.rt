@@ -2,9 +2,13 @@
 //! several jobs at once.
 #![tactic(auto)]
 
+mod case;
+mod junit;
 mod reporting;
 mod running;
 mod scenario;
 mod set;
+mod tap;
 mod telling;
 pub mod test;
+mod written;

@@ -2,15 +2,14 @@
 
 ghost use Rattle.std.specs.Prelude.{◌≡◌, ◌↔◌, IfOk, IsTrue};
 ghost use Rattle.std.specs.List.{All, AllZip, list_any};
-ghost use Rattle.drvhost_many.specs.Held.{AreJoined};
 ghost use Rattle.answer_scenarios.specs.Scenarios.{names_in};
-ghost use Rattle.drvhost_tests.specs.Tests.{IsEntry, IsHeldTold, IsKept, IsScenarioShown};
-ghost use Rattle.drvhost_tests.specs.Tests.{IsScenarioTold, IsShown, is_held_of_verdict};
+ghost use Rattle.drvhost_tests.specs.Tests.{IsHeldTold, IsKept, IsScenarioShown, IsScenarioTold};
+ghost use Rattle.drvhost_tests.specs.Tests.{IsShown, IsTestHeld, is_held_of_verdict};
 ghost use Rattle.drvhost_tests.specs.Tests.{is_of_verdict};
 ghost use Rattle.drvhost_tests.specs.Told.{asked_of, tested_of};
 ghost use Rattle.scenario_text.specs.Listing.{scenario_in};
 
-use crate::reporting::add_entry;
+use crate::case::Case;
 use crate::running::with_run;
 use crate::telling::{answer_of, tell_refused, tell_schedule_fault, tell_unread};
 use crate::test::Suite;
@@ -177,28 +176,27 @@ fn test_text(
     with_run(alloc, suite.tests.verbosity, bytes, set, text, told)
 }
 
-/// The answers for scenarios that were read, as they are reported, behind one another.
-pub(crate) fn report_each(
+/// The tests of scenarios that were read, for which these were answered.
+pub(crate) fn cases_of<'t>(
     suite: Suite<'_>,
     subject: Subject<'_>,
-    held: &[Held<'_>],
-    told: &[Result<Told, AllocError>],
-) -> Result<Told, AllocError>
+    held: &'t [Held<'_>],
+    told: &'t [Result<Told, AllocError>],
+) -> Result<Vec<Case<'t>>, AllocError>
     requires told { AllZip
         (λ one answer. IfOk answer (IsHeldTold (asked_of suite.tests) (tested_of subject) one))
         held.now told.now }
-    ensures { IfOk result (AreJoined (IsEntry (asked_of suite.entry.tests)
-        (tested_of subject.entry)) held.now) }
+    ensures { IfOk result (λ cases. AllZip (IsTestHeld (asked_of suite.entry.tests)
+        (tested_of subject.entry)) held.now cases.items) }
 {
-    let alloc = suite.alloc;
-    let mut all = Told::of(0, Vec::new(alloc), Vec::new(alloc));
+    let mut cases = Vec::new(suite.alloc);
     for i in 0..held.len() {
         let Ok(answer) = &told[i] else {
             return Err(AllocError);
         };
-        add_entry(alloc, suite.tests.report, held[i].name, answer, &mut all)?;
+        cases.push(Case::of(held[i].name, answer))?;
     }
-    Ok(all)
+    Ok(cases)
 }
 
 /// What is answered for the scenario that a text lists.

@@ -8,8 +8,8 @@ ghost use Rattle.drvhost_tests.specs.Told.{asked_of, tested_of};
 ghost use Rattle.drvhost_files.specs.Kept.{OnlyReads};
 ghost use Rattle.drvhost_files.specs.Ready.{CanOpenMany};
 
-use crate::reporting::{alone, framed};
-use crate::scenario::{Subject, any_of_verdict, are_kept, report_each, test_each};
+use crate::reporting::{alone, reported};
+use crate::scenario::{Subject, any_of_verdict, are_kept, cases_of, test_each};
 use crate::telling::{tell_image_fault, tell_refused, tell_text_fault, tell_unread_set};
 use crate::test::Suite;
 use drvhost_devices::fault::Fault;
@@ -212,12 +212,11 @@ fn tell_each<R: Threads + Sync>(
         held.now) }
 {
     let told = test_each(rt, suite, subject, held)?;
-    let all = report_each(suite, subject, held, told.as_slice())?;
-    framed(
+    let cases = cases_of(suite, subject, held, told.as_slice())?;
+    reported(
         suite.alloc,
         suite.tests.report,
         suite.tests.set,
-        held.len(),
-        &all,
+        cases.as_slice(),
     )
 }
