@@ -206,7 +206,7 @@ CASES = [
     ('check', 2, b'', SOME),
     ('check good.drv --unchecked', 2, b'', SOME),
     ('trace good.drv', 2, b'', SOME),
-    ('--help', 2, b'', SOME),
+    ('--help', 0, SOME, b''),
 ]
 
 # words of which one is `-`, and what the standard input gives

@@ -3,10 +3,11 @@
 has to hold, as `test --unchecked` says. Of each schedule of the gallery a scenario is made that does the same and expects a clean
 run at its end: a mended driver has to pass it, and a wrong one to fail it in the line in which its run stops, at the end where
 the audit finds something amiss, and nowhere else. The schedule that `schedule` writes of each has to make the same events
-and replies, but for those that do nothing. The last line counts."""
+and replies, but for those that do nothing. Reports of tests whose names attack have to be read as they are meant: TAP by `prove`
+(on Debian in `perl`), JUnit by Python's parser, and by `xmllint` where it is there. The last line counts."""
 import glob, os, re, subprocess, sys, tempfile
 
-import gallery
+import gallery, reports
 
 # Replies to events that change nothing.
 NOTHING = 'refused', 'idle', 'waited'
@@ -92,7 +93,11 @@ def main():
                 wrong += [asked[0]] * (not is_played(program, *asked, folder))
     for path in wrong:
         print('%s: its scenario says something else' % os.path.relpath(path, gallery.TOP))
-    print('%d scenarios, %d wrong' % (tried, len(wrong)))
-    return 1 if wrong else 0
+    with tempfile.TemporaryDirectory() as folder:
+        faults = list(reports.faults_of(program, folder))
+    for fault in faults:
+        print('a report: %s' % fault)
+    print('%d scenarios, %d wrong, %d faults of reports' % (tried, len(wrong), len(faults)))
+    return 1 if wrong or faults else 0
 
 sys.exit(main())
